@@ -1,0 +1,90 @@
+// Block sizes: how large a block the port opens for copied bytes.
+// From arrow-select 60.0.0, src/coalesce/byte_view.rs: `BufferSource`, by value where the Rust has `&mut self`.
+ghost use mathlib.Core.Path.{_≡_};
+ghost use Prim.Native.Nat.{_≤_, max};
+ghost use Rattle.blocks.specs.Block.{doubled, grown, kept, asked, fresh};
+use counts::ByteCount;
+use counts::ByteSum;
+
+const STARTING_BLOCK_SIZE: u32 = 4096;
+
+const MAX_BLOCK_SIZE: u32 = 1048576;
+
+// The size that a view column keeps across batches.
+pub struct BufferSource {
+    pub current: ByteCount,
+}
+
+// What an ask gives: the size of the block, and the source with the size that is kept.
+pub struct NextSize {
+    pub source: BufferSource,
+    pub size: ByteSum,
+}
+
+// The size doubled, if it is below the largest.
+fn double(size: u32) -> u32
+    ensures { λ r. ⌜ r ≡ doubled size ⌝ }
+{
+    if size < MAX_BLOCK_SIZE {
+        size * 2
+    } else {
+        size
+    }
+}
+
+// The size doubled while it is at most the minimum and below the largest.
+fn grow(size: u32, min: u64) -> u32
+    requires { ⌜ 1 ≤ size ⌝ }
+    ensures { λ r. ⌜ r ≡ grown size min ⌝ }
+{
+    let mut s = size;
+    while (s as u64) <= min && s < MAX_BLOCK_SIZE {
+        s = s * 2;
+    }
+    s
+}
+
+// The size that one ask keeps.
+fn keep(size: u32, min: u64) -> u32
+    requires { ⌜ 1 ≤ size ⌝ }
+    ensures { λ r. ⌜ r ≡ kept size min ⌝ }
+{
+    let once = double(size);
+    if (once as u64) < min {
+        grow(once, min)
+    } else {
+        once
+    }
+}
+
+// The larger of two sizes.
+fn larger(a: u64, b: u64) -> u64
+    ensures { λ r. ⌜ r ≡ max a b ⌝ }
+{
+    if a < b { b } else { a }
+}
+
+impl BufferSource {
+    // The source of a fresh column.
+    pub fn new() -> BufferSource
+        ensures { λ r. ⌜ r ≡ fresh ⌝ }
+    {
+        BufferSource {
+            current: ByteCount(STARTING_BLOCK_SIZE),
+        }
+    }
+
+    // One ask: a block of at least min bytes.
+    pub fn next_size(self, min: ByteSum) -> NextSize
+        requires { ⌜ 1 ≤ self .current .0 ⌝ }
+        ensures { λ r. ⌜ r ≡ asked self min ⌝ }
+    {
+        let size = keep(self.current.0, min.0);
+        NextSize {
+            source: BufferSource {
+                current: ByteCount(size),
+            },
+            size: ByteSum(larger(size as u64, min.0)),
+        }
+    }
+}

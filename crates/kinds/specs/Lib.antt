@@ -1,0 +1,3 @@
+-- The kinds of columns, their widths, and the table's rule.
+pub mod Kind
+pub mod KindLaws

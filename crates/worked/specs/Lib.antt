@@ -1,0 +1,2 @@
+-- 01's worked examples.
+pub mod Worked
