@@ -1,39 +1,29 @@
-use native.Mathlib.Omega.{arith}
+-- `kinds::width_of` meets its contract.
+use mathlib.Core.List.{[], _∷_}
+use borrow.Author.Needs.{needs}
 use Rattle.kinds.specs.Kind.{widthAt, kindOf}
 use Rattle.kinds.specs.KindLaws.{right, width-zero, width-past, width-found}
-use Prim.Native.Nat.{ℕ}
-use mathlib.Core.List.{List, [], _∷_}
-use borrow.Author.Needs.{needs}
 use Rattle.kinds.proofs.width_of.Statement.{statement}
 use Rattle.kinds.proofs.width_of.Tie as tie
-use Rattle.kinds.proofs.width_of.Reads as reads
-use Rattle.kinds.proofs.width_of.Lts as lts
 
--- src/lib.rt:22:9
 returns : tie.Need-returns
 returns c = search (width-zero, needs)
 
--- src/lib.rt:25:9
 returns-2 : tie.Need-returns-2
 returns-2 c = search (width-past, needs)
 
--- src/lib.rt:27:18
 sub-place : tie.Need-sub-place
 sub-place c = search needs
 
--- src/lib.rt:27:17
 cast-place : tie.Need-cast-place
 cast-place c = search needs
 
--- src/lib.rt:28:18
 mul-t6 : tie.Need-mul-t6
 mul-t6 c = search needs
 
--- src/lib.rt:28:18
 array-read-t4 : tie.Need-array-read-t4
 array-read-t4 c = search needs
 
--- src/lib.rt:18:1
 returns-3 : tie.Need-returns-3
 unfolding right widthAt kindOf
 returns-3 c = width-found (1 ∷ 2 ∷ 4 ∷ 8 ∷ 1 ∷ 2 ∷ 4 ∷ 8 ∷ 2 ∷ 4 ∷ 8 ∷ 4 ∷ 8 ∷ 8 ∷ 8 ∷ 16 ∷ 32 ∷ 16 ∷ 16 ∷ []) tt (c .before .before .args .kind) (search needs) (search needs)

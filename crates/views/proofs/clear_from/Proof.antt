@@ -1,28 +1,21 @@
-use native.Mathlib.Omega.{arith}
+-- `views::clear_from` meets its contract.
 use borrow.Author.Needs.{needs}
 use Rattle.views.specs.PadLaws.{clear-0, clear-1, clear-2, clear-3, clear-4}
 use Rattle.views.proofs.clear_from.Statement.{statement}
 use Rattle.views.proofs.clear_from.Tie as tie
-use Rattle.views.proofs.clear_from.Reads as reads
-use Rattle.views.proofs.clear_from.Lts as lts
 
--- src/lib.rt:59:9
 returns : tie.Need-returns
 returns c = search (clear-0, needs)
 
--- src/lib.rt:62:9
 returns-2 : tie.Need-returns-2
 returns-2 c = search (clear-1, needs)
 
--- src/lib.rt:65:9
 returns-3 : tie.Need-returns-3
 returns-3 c = search (clear-2, needs)
 
--- src/lib.rt:68:9
 returns-4 : tie.Need-returns-4
 returns-4 c = search (clear-3, needs)
 
--- src/lib.rt:55:1
 returns-5 : tie.Need-returns-5
 returns-5 c = search (clear-4, needs)
 

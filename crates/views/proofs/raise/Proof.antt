@@ -1,20 +1,16 @@
+-- `views::raise` meets its contract.
 use native.Mathlib.Omega.{arith}
 use borrow.Author.Needs.{needs}
 use Rattle.views.specs.ShowLaws.{raise-inline, raise-long}
 use Rattle.views.proofs.raise.Statement.{statement}
 use Rattle.views.proofs.raise.Tie as tie
-use Rattle.views.proofs.raise.Reads as reads
-use Rattle.views.proofs.raise.Lts as lts
 
--- src/lib.rt:131:20
 add-t5 : tie.Need-add-t5
 add-t5 c = omega (arith, c .before .before .before .pre .fits (omega arith))
 
--- src/lib.rt:123:1
 returns : tie.Need-returns
 returns c = search (raise-long, needs)
 
--- src/lib.rt:123:1
 returns-2 : tie.Need-returns-2
 returns-2 c = search (raise-inline, needs)
 

@@ -1,16 +1,12 @@
-use native.Mathlib.Omega.{arith}
+-- `views::repoint` meets its contract.
 use borrow.Author.Needs.{needs}
 use Rattle.views.specs.ShowLaws.{repoint-inline, repoint-long}
 use Rattle.views.proofs.repoint.Statement.{statement}
 use Rattle.views.proofs.repoint.Tie as tie
-use Rattle.views.proofs.repoint.Reads as reads
-use Rattle.views.proofs.repoint.Lts as lts
 
--- src/lib.rt:141:9
 returns : tie.Need-returns
 returns c = search (repoint-inline, needs)
 
--- src/lib.rt:137:1
 returns-2 : tie.Need-returns-2
 returns-2 c = search (repoint-long, needs)
 

@@ -1,62 +1,48 @@
-use native.Mathlib.Omega.{arith}
-use Rattle.words.specs.Word.{withWord32}
-use lib.ListN.{length-set}
+-- `words::put32` meets its contract.
 use mathlib.Core.Path.{refl}
+use native.Mathlib.Omega.{arith}
+use lib.ListN.{length-set}
 use borrow.Author.Needs.{needs}
+use Rattle.words.specs.Word.{withWord32}
 use Rattle.words.proofs.put32.Statement.{statement}
 use Rattle.words.proofs.put32.Tie as tie
-use Rattle.words.proofs.put32.Reads as reads
-use Rattle.words.proofs.put32.Lts as lts
 
--- src/lib.rt:29:13
 cast-s : tie.Need-cast-s
 cast-s c = search needs
 
--- src/lib.rt:29:5
 slice-write-s : tie.Need-slice-write-s
 slice-write-s c = search needs
 
--- src/lib.rt:30:17
 cast-s-2 : tie.Need-cast-s-2
 cast-s-2 c = search needs
 
--- src/lib.rt:30:7
 add-s : tie.Need-add-s
 add-s c = search needs
 
--- src/lib.rt:30:5
 slice-write-s-2 : tie.Need-slice-write-s-2
 slice-write-s-2 c = simp length-set (omega arith)
 
--- src/lib.rt:31:17
 cast-s-3 : tie.Need-cast-s-3
 cast-s-3 c = search needs
 
--- src/lib.rt:31:7
 add-s-2 : tie.Need-add-s-2
 add-s-2 c = search needs
 
--- src/lib.rt:31:5
 slice-write-s-3 : tie.Need-slice-write-s-3
 slice-write-s-3 c = simp length-set (omega arith)
 
--- src/lib.rt:32:17
 cast-s-4 : tie.Need-cast-s-4
 cast-s-4 c = search needs
 
--- src/lib.rt:32:7
 add-s-3 : tie.Need-add-s-3
 add-s-3 c = search needs
 
--- src/lib.rt:32:5
 slice-write-s-4 : tie.Need-slice-write-s-4
 slice-write-s-4 c = simp length-set (omega arith)
 
--- src/lib.rt:25:1
 same-length : tie.Need-same-length
 same-length c = search needs
 
--- src/lib.rt:25:1
 returns : tie.Need-returns
 unfolding withWord32
 returns c = refl
