@@ -1,7 +1,7 @@
 // Block sizes: how large a block the port opens for copied bytes.
 // From arrow-select 60.0.0, src/coalesce/byte_view.rs: `BufferSource`, by value where the Rust has `&mut self`.
 ghost use mathlib.Core.Path.{_≡_};
-ghost use Prim.Native.Nat.{_≤_, max};
+ghost use Prim.Native.Nat.{_≤_};
 ghost use Rattle.blocks.specs.Block.{doubled, grown, kept, asked, fresh};
 use counts::ByteCount;
 use counts::ByteSum;
@@ -57,13 +57,6 @@ fn keep(size: u32, min: u64) -> u32
     }
 }
 
-// The larger of two sizes.
-fn larger(a: u64, b: u64) -> u64
-    ensures { λ r. ⌜ r ≡ max a b ⌝ }
-{
-    if a < b { b } else { a }
-}
-
 impl BufferSource {
     // The source of a fresh column.
     pub fn new() -> BufferSource
@@ -84,7 +77,7 @@ impl BufferSource {
             source: BufferSource {
                 current: ByteCount(size),
             },
-            size: ByteSum(larger(size as u64, min.0)),
+            size: ByteSum(counts::larger(size as u64, min.0)),
         }
     }
 }

@@ -1,0 +1,3 @@
+-- Listings: taken, listed, unlisted, let go, freed; and their laws.
+pub mod Listing
+pub mod ListingLaws
