@@ -1,0 +1,42 @@
+-- `pool_story::register` meets its contract.
+use borrow.Author.Needs.{needs}
+use Rattle.pool_story.specs.Ready.{in-use, for-four, few-bytes}
+use Rattle.pool_story.proofs.register.Statement.{statement}
+use Rattle.pool_story.proofs.register.Tie as tie
+
+ready-requires : tie.Need-ready-requires
+ready-requires c κs = search needs
+
+register-requires : tie.Need-register-requires
+register-requires c κs = (search (in-use, needs), search (for-four, needs), search needs, search (few-bytes, needs))
+
+same-length : tie.Need-same-length
+same-length c = search needs
+
+same-length-2 : tie.Need-same-length-2
+same-length-2 c = search needs
+
+returns : tie.Need-returns
+returns c = search needs
+
+same-length-3 : tie.Need-same-length-3
+same-length-3 c = search needs
+
+same-length-4 : tie.Need-same-length-4
+same-length-4 c = search needs
+
+returns-2 : tie.Need-returns-2
+returns-2 c = search needs
+
+pub register-spec : {M : Type 1} → statement M
+register-spec =
+    tie.close
+    (tie.spec
+    ready-requires
+    register-requires
+    same-length
+    same-length-2
+    returns
+    same-length-3
+    same-length-4
+    returns-2)

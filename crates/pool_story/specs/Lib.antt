@@ -1,0 +1,2 @@
+-- What the program tests before each step.
+pub mod Ready

@@ -1,0 +1,3 @@
+-- The counts of each slot.
+pub mod Tally
+pub mod TallyLaws
