@@ -6,6 +6,7 @@ ghost use lib.ListN.{length, set};
 ghost use Rattle.books.specs.Entry.{usedOf};
 ghost use Rattle.pool.specs.Register.{registered, Registers, RegistersAt, letGo, LetsGo};
 ghost use Rattle.pool.specs.Read.{partOf, readRefusal, fitsIn, inRange};
+ghost use Rattle.pool.specs.Ready.{HasEntries, Readied};
 ghost use Rattle.pool.specs.Carry.{carried};
 use books::Entry;
 use counts::BufferNumber;
@@ -147,6 +148,32 @@ pub fn books_in_range(books: &[u8], n: u32, pool: u64) -> bool
         }
     }
     true
+}
+
+// Whether the books have an entry for each number in use, of which there are at most n.
+pub fn has_entries(books: &[u8], n: u32) -> bool
+    ensures { λ r. ⌜ HasEntries (now (books .entry)) n r ⌝ }
+{
+    if books.len() < 4 + 20 * (n as usize) {
+        false
+    } else {
+        words::get32(books, 0) <= n
+    }
+}
+
+// Whether books and pool are such that every call on them may be made: their lengths, and the ranges of 14.
+pub fn is_ready(books: &[u8], pool: &[u8], n: u32) -> bool
+    ensures { λ r. ⌜ Readied (now (books .entry)) (now (pool .entry)) n r ⌝ }
+{
+    if has_entries(books, n) {
+        if 4294967295 < pool.len() {
+            false
+        } else {
+            books_in_range(books, n, pool.len() as u64)
+        }
+    } else {
+        false
+    }
 }
 
 // The byte b at place i of a lent part.

@@ -1,6 +1,5 @@
 // A story of the pool: buffers registered, listed, let go and freed, their numbers and room used again, and 01's edges of
 // the pool. What it prints is held to the file stdout.
-ghost use Rattle.pool_story.specs.Ready.{Readied};
 use counts::BufferNumber;
 use counts::ByteCount;
 use counts::ByteSum;
@@ -8,21 +7,8 @@ use libc::STDOUT_FILENO;
 use pool::Registered;
 use room::Chosen;
 
-// Whether the books have room for four numbers and are in range.
-fn ready(books: &[u8], pool: &[u8]) -> bool
-    ensures { λ r. ⌜ Readied (now (books .entry)) (now (pool .entry)) r ⌝ }
-{
-    if books.len() < 84 {
-        return false;
-    }
-    if 4294967295 < pool.len() {
-        return false;
-    }
-    pool::books_in_range(books, 4, pool.len() as u64)
-}
-
 fn register(books: &mut [u8], pool: &mut [u8], bytes: &[u8], capacity: u32) -> Registered {
-    if ready(books, pool) {
+    if pool::is_ready(books, pool, 4) {
         pool::register(books, pool, 4, bytes, ByteCount(capacity))
     } else {
         Registered::Refused(14)
@@ -30,35 +16,22 @@ fn register(books: &mut [u8], pool: &mut [u8], bytes: &[u8], capacity: u32) -> R
 }
 
 fn open(books: &mut [u8], pool: &[u8], capacity: u64) -> Chosen {
-    if ready(books, pool) {
+    if pool::is_ready(books, pool, 4) {
         room::open_block(books, 4, pool.len() as u32, ByteSum(capacity))
     } else {
         Chosen::Refused(14)
     }
 }
 
-// Whether the books have an entry for each number in use.
-fn ready_again(books: &[u8]) -> bool
-    ensures { λ r. ⌜ Readied (now (books .entry)) (now (books .entry)) r ⌝ }
-{
-    if books.len() < 84 {
-        return false;
-    }
-    if 4294967295 < books.len() {
-        return false;
-    }
-    words::get32(books, 0) <= 4
-}
-
 fn end_trial(books: &mut [u8], used: u32) {
-    if ready_again(books) {
+    if pool::has_entries(books, 4) {
         room::end_trial(books, used);
         return;
     }
 }
 
 fn used(books: &[u8]) -> u32 {
-    if ready_again(books) {
+    if pool::has_entries(books, 4) {
         words::get32(books, 0)
     } else {
         0
@@ -66,7 +39,7 @@ fn used(books: &[u8]) -> u32 {
 }
 
 fn try_block(books: &mut [u8], pool: &[u8], capacity: u64) -> Chosen {
-    if ready(books, pool) {
+    if pool::is_ready(books, pool, 4) {
         room::try_block(books, 4, pool.len() as u32, ByteSum(capacity))
     } else {
         Chosen::Refused(14)
@@ -82,7 +55,7 @@ fn try_open(books: &mut [u8], pool: &[u8], capacity: u64) -> Chosen {
 }
 
 fn let_go(books: &mut [u8], pool: &[u8], number: u32) -> u32 {
-    if ready(books, pool) {
+    if pool::is_ready(books, pool, 4) {
         pool::let_go(books, BufferNumber(number))
     } else {
         14
@@ -90,10 +63,10 @@ fn let_go(books: &mut [u8], pool: &[u8], number: u32) -> u32 {
 }
 
 fn list(books: &mut [u8], pool: &[u8], number: usize) -> u32 {
-    if 3 < number {
+    if 4 <= number {
         return 13;
     }
-    if ready(books, pool) {
+    if pool::is_ready(books, pool, 4) {
         listings::list_one(books, number);
         0
     } else {
@@ -102,10 +75,10 @@ fn list(books: &mut [u8], pool: &[u8], number: usize) -> u32 {
 }
 
 fn unlist(books: &mut [u8], pool: &[u8], number: usize) -> u32 {
-    if 3 < number {
+    if 4 <= number {
         return 13;
     }
-    if ready(books, pool) {
+    if pool::is_ready(books, pool, 4) {
         listings::unlist_one(books, number);
         0
     } else {
@@ -183,7 +156,7 @@ fn show(books: &[u8]) {
 
 // The bytes of a buffer, and the number beside them.
 fn show_part(books: &[u8], pool: &[u8], number: u32) {
-    if ready(books, pool) {
+    if pool::is_ready(books, pool, 4) {
         say(b"read ", number as u64);
         let refused = pool::buffer_refusal(books, pool, BufferNumber(number));
         say(b": refusal ", refused as u64);

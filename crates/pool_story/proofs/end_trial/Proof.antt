@@ -1,14 +1,14 @@
 -- `pool_story::end_trial` meets its contract.
 use borrow.Author.Needs.{needs}
-use Rattle.pool_story.specs.Ready.{for-used}
+use Rattle.pool.specs.Ready.{has-used}
 use Rattle.pool_story.proofs.end_trial.Statement.{statement}
 use Rattle.pool_story.proofs.end_trial.Tie as tie
 
-ready-again-requires : tie.Need-ready-again-requires
-ready-again-requires c κs = search needs
+has-entries-requires : tie.Need-has-entries-requires
+has-entries-requires c κs = search needs
 
 end-trial-requires : tie.Need-end-trial-requires
-end-trial-requires c κs = search (for-used, needs)
+end-trial-requires c κs = search (has-used, needs)
 
 same-length : tie.Need-same-length
 same-length c = search needs
@@ -25,4 +25,4 @@ returns-2 c = search needs
 pub end-trial-spec : {M : Type 1} → statement M
 end-trial-spec =
     tie.close
-    (tie.spec ready-again-requires end-trial-requires same-length returns same-length-2 returns-2)
+    (tie.spec has-entries-requires end-trial-requires same-length returns same-length-2 returns-2)

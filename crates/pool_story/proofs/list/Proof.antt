@@ -1,14 +1,14 @@
 -- `pool_story::list` meets its contract.
 use borrow.Author.Needs.{needs}
-use Rattle.pool_story.specs.Ready.{for-entry}
+use Rattle.pool.specs.Ready.{for-entry}
 use Rattle.pool_story.proofs.list.Statement.{statement}
 use Rattle.pool_story.proofs.list.Tie as tie
 
 returns : tie.Need-returns
 returns c = search needs
 
-ready-requires : tie.Need-ready-requires
-ready-requires c κs = search needs
+is-ready-requires : tie.Need-is-ready-requires
+is-ready-requires c κs = search needs
 
 list-one-requires : tie.Need-list-one-requires
 list-one-requires c κs = search (for-entry, needs)
@@ -30,7 +30,7 @@ list-spec =
     tie.close
     (tie.spec
     returns
-    ready-requires
+    is-ready-requires
     list-one-requires
     same-length
     returns-2

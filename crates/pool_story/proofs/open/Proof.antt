@@ -1,17 +1,17 @@
 -- `pool_story::open` meets its contract.
 use borrow.Author.Needs.{needs}
-use Rattle.pool_story.specs.Ready.{in-use, for-four, few-bytes}
+use Rattle.pool.specs.Ready.{in-use, for-numbers, few-bytes}
 use Rattle.pool_story.proofs.open.Statement.{statement}
 use Rattle.pool_story.proofs.open.Tie as tie
 
-ready-requires : tie.Need-ready-requires
-ready-requires c κs = search needs
+is-ready-requires : tie.Need-is-ready-requires
+is-ready-requires c κs = search needs
 
 cast-open-block : tie.Need-cast-open-block
 cast-open-block c = record { fits = search (few-bytes, needs) }
 
 open-block-requires : tie.Need-open-block-requires
-open-block-requires c κs = (search (in-use, needs), search (for-four, needs), search needs)
+open-block-requires c κs = (search (in-use, needs), search (for-numbers, needs), search needs)
 
 same-length : tie.Need-same-length
 same-length c = search needs
@@ -29,7 +29,7 @@ pub open-spec : {M : Type 1} → statement M
 open-spec =
     tie.close
     (tie.spec
-    ready-requires
+    is-ready-requires
     cast-open-block
     open-block-requires
     same-length

@@ -1,14 +1,14 @@
 -- `pool_story::register` meets its contract.
 use borrow.Author.Needs.{needs}
-use Rattle.pool_story.specs.Ready.{in-use, for-four, few-bytes}
+use Rattle.pool.specs.Ready.{in-use, for-numbers, few-bytes}
 use Rattle.pool_story.proofs.register.Statement.{statement}
 use Rattle.pool_story.proofs.register.Tie as tie
 
-ready-requires : tie.Need-ready-requires
-ready-requires c κs = search needs
+is-ready-requires : tie.Need-is-ready-requires
+is-ready-requires c κs = search needs
 
 register-requires : tie.Need-register-requires
-register-requires c κs = (search (in-use, needs), search (for-four, needs), search needs, search (few-bytes, needs))
+register-requires c κs = (search (in-use, needs), search (for-numbers, needs), search needs, search (few-bytes, needs))
 
 same-length : tie.Need-same-length
 same-length c = search needs
@@ -32,7 +32,7 @@ pub register-spec : {M : Type 1} → statement M
 register-spec =
     tie.close
     (tie.spec
-    ready-requires
+    is-ready-requires
     register-requires
     same-length
     same-length-2

@@ -1,11 +1,11 @@
 -- `pool_story::show_part` meets its contract.
 use borrow.Author.Needs.{needs}
-use Rattle.pool_story.specs.Ready.{for-used}
+use Rattle.pool.specs.Ready.{for-used}
 use Rattle.pool_story.proofs.show_part.Statement.{statement}
 use Rattle.pool_story.proofs.show_part.Tie as tie
 
-ready-requires : tie.Need-ready-requires
-ready-requires c κs = search needs
+is-ready-requires : tie.Need-is-ready-requires
+is-ready-requires c κs = search needs
 
 slice-aggregate-say : tie.Need-slice-aggregate-say
 slice-aggregate-say c = search needs
@@ -53,7 +53,7 @@ pub show-part-spec : {M : Type 1} → statement M
 show-part-spec =
     tie.close
     (tie.spec
-    ready-requires
+    is-ready-requires
     slice-aggregate-say
     say-requires
     buffer-refusal-requires

@@ -1,14 +1,14 @@
 -- `pool_story::unlist` meets its contract.
 use borrow.Author.Needs.{needs}
-use Rattle.pool_story.specs.Ready.{for-used, for-entry}
+use Rattle.pool.specs.Ready.{for-used, for-entry}
 use Rattle.pool_story.proofs.unlist.Statement.{statement}
 use Rattle.pool_story.proofs.unlist.Tie as tie
 
 returns : tie.Need-returns
 returns c = search needs
 
-ready-requires : tie.Need-ready-requires
-ready-requires c κs = search needs
+is-ready-requires : tie.Need-is-ready-requires
+is-ready-requires c κs = search needs
 
 unlist-one-requires : tie.Need-unlist-one-requires
 unlist-one-requires c κs = (search (for-entry, needs), search (for-used, needs))
@@ -30,7 +30,7 @@ unlist-spec =
     tie.close
     (tie.spec
     returns
-    ready-requires
+    is-ready-requires
     unlist-one-requires
     same-length
     returns-2

@@ -1,14 +1,14 @@
 -- `pool_story::used` meets its contract.
 use borrow.Author.Needs.{needs}
-use Rattle.pool_story.specs.Ready.{for-word}
+use Rattle.pool.specs.Ready.{has-word}
 use Rattle.pool_story.proofs.used.Statement.{statement}
 use Rattle.pool_story.proofs.used.Tie as tie
 
-ready-again-requires : tie.Need-ready-again-requires
-ready-again-requires c κs = search needs
+has-entries-requires : tie.Need-has-entries-requires
+has-entries-requires c κs = search needs
 
 get32-requires : tie.Need-get32-requires
-get32-requires c κs = search (for-word, needs)
+get32-requires c κs = search (has-word, needs)
 
 returns : tie.Need-returns
 returns c = search needs
@@ -17,4 +17,4 @@ returns-2 : tie.Need-returns-2
 returns-2 c = search needs
 
 pub used-spec : {M : Type 1} → statement M
-used-spec = tie.close (tie.spec ready-again-requires get32-requires returns returns-2)
+used-spec = tie.close (tie.spec has-entries-requires get32-requires returns returns-2)

@@ -1,0 +1,28 @@
+-- `pool_bench::let_go` meets its contract.
+use borrow.Author.Needs.{needs}
+use Rattle.pool.specs.Ready.{for-used}
+use Rattle.pool_bench.proofs.let_go.Statement.{statement}
+use Rattle.pool_bench.proofs.let_go.Tie as tie
+
+is-ready-requires : tie.Need-is-ready-requires
+is-ready-requires c κs = search needs
+
+let-go-requires : tie.Need-let-go-requires
+let-go-requires c κs = search (for-used, needs)
+
+same-length : tie.Need-same-length
+same-length c = search needs
+
+returns : tie.Need-returns
+returns c = search needs
+
+same-length-2 : tie.Need-same-length-2
+same-length-2 c = search needs
+
+returns-2 : tie.Need-returns-2
+returns-2 c = search needs
+
+pub let-go-spec : {M : Type 1} → statement M
+let-go-spec =
+    tie.close
+    (tie.spec is-ready-requires let-go-requires same-length returns same-length-2 returns-2)

@@ -1,0 +1,46 @@
+-- `pool_bench::register` meets its contract.
+use borrow.Author.Needs.{needs}
+use Rattle.pool.specs.Ready.{in-use, for-numbers, few-bytes}
+use Rattle.pool_bench.proofs.register.Statement.{statement}
+use Rattle.pool_bench.proofs.register.Tie as tie
+
+is-ready-requires : tie.Need-is-ready-requires
+is-ready-requires c κs = search needs
+
+slice-aggregate-register : tie.Need-slice-aggregate-register
+slice-aggregate-register c = search needs
+
+register-requires : tie.Need-register-requires
+register-requires c κs = (search (in-use, needs), search (for-numbers, needs), search needs, search (few-bytes, needs))
+
+same-length : tie.Need-same-length
+same-length c = search needs
+
+same-length-2 : tie.Need-same-length-2
+same-length-2 c = search needs
+
+returns : tie.Need-returns
+returns c = search needs
+
+same-length-3 : tie.Need-same-length-3
+same-length-3 c = search needs
+
+same-length-4 : tie.Need-same-length-4
+same-length-4 c = search needs
+
+returns-2 : tie.Need-returns-2
+returns-2 c = search needs
+
+pub register-spec : {M : Type 1} → statement M
+register-spec =
+    tie.close
+    (tie.spec
+    is-ready-requires
+    slice-aggregate-register
+    register-requires
+    same-length
+    same-length-2
+    returns
+    same-length-3
+    same-length-4
+    returns-2)

@@ -1,0 +1,42 @@
+-- `pool_bench::unlist` meets its contract.
+use borrow.Author.Needs.{needs}
+use Rattle.pool.specs.Ready.{for-used, for-entry}
+use Rattle.pool_bench.proofs.unlist.Statement.{statement}
+use Rattle.pool_bench.proofs.unlist.Tie as tie
+
+returns : tie.Need-returns
+returns c = search needs
+
+is-ready-requires : tie.Need-is-ready-requires
+is-ready-requires c κs = search needs
+
+cast-unlist-one : tie.Need-cast-unlist-one
+cast-unlist-one c = search needs
+
+unlist-one-requires : tie.Need-unlist-one-requires
+unlist-one-requires c κs = (search (for-entry, needs), search (for-used, needs))
+
+same-length : tie.Need-same-length
+same-length c = search needs
+
+returns-2 : tie.Need-returns-2
+returns-2 c = search needs
+
+same-length-2 : tie.Need-same-length-2
+same-length-2 c = search needs
+
+returns-3 : tie.Need-returns-3
+returns-3 c = search needs
+
+pub unlist-spec : {M : Type 1} → statement M
+unlist-spec =
+    tie.close
+    (tie.spec
+    returns
+    is-ready-requires
+    cast-unlist-one
+    unlist-one-requires
+    same-length
+    returns-2
+    same-length-2
+    returns-3)

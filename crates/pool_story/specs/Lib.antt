@@ -1,2 +1,0 @@
--- What the program tests before each step.
-pub mod Ready
