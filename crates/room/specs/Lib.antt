@@ -3,3 +3,6 @@ pub mod Room
 pub mod RoomLaws
 pub mod Trial
 pub mod TrialLaws
+pub mod Back
+pub mod SameBooks
+pub mod BackLaws

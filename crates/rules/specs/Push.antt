@@ -1,0 +1,110 @@
+-- Push, step by step: 01's four steps, queueing whole, finishing; and what a push gives.
+use Prim.Native.Nat.{ℕ, zero, suc, _+_, _*_, _-_}
+use mathlib.Core.Bool.{Bool, true, false, cond}
+use mathlib.Core.List.{List}
+use mathlib.Core.Option.{Option, none, some}
+use lib.Dec.{ltb, leb, eqb}
+use Rattle.search.specs.Every.{every}
+use Rattle.state.specs.declared.Limit.{Limit}
+use Rattle.state.specs.World.{World}
+use Rattle.state.specs.Layout.{isViews}
+use Rattle.rules.specs.Batch.{Batch, recordOf}
+use Rattle.rules.specs.Checks.{Fault, batchFault}
+use Rattle.rules.specs.Ranges.{fitsSetUp, stateInRange}
+use Rattle.rules.specs.Steps.{Res, ok, refuse, bind, forEach, buffering, queueing}
+use Rattle.rules.specs.Views.{filling, closed, bitsCopied, valuesCopied, listAttached, partCopied}
+
+-- the open block of each column of views joins its list. 01: "each column's open block joins its list and the slot is queued"
+unfoldable pub allClosed : World → ℕ → World
+allClosed w zero = w
+allClosed w (suc c) = let v = allClosed w c in cond (isViews (v .state) c) (closed v c) v
+
+-- 01: "Finishing with 0 buffered does nothing. Otherwise each column's open block joins its list and the slot is queued.";
+-- 9: "finishing 1 or more rows .. with Q queued"
+unfoldable pub finished : World → Res
+finished w =
+    cond (eqb (w .state .buffered .0) 0) (ok w)
+    (cond (ltb (w .state .queued) (w .state .queue)) (ok (queueing (allClosed w (w .state .columns)) (w .state .buffered .0)))
+    (refuse 9))
+
+-- column c of the whole batch in the slot being filled. 01: "Queued whole: views unchanged, list listed as given, no block opened
+-- or closed for it."
+unfoldable pub columnWhole : World → Batch → ℕ → World
+columnWhole w b c =
+    listAttached (valuesCopied (bitsCopied w b c (filling w) 0 0 (b .rows)) b c (filling w) 0 0 (b .rows)) b c
+
+unfoldable pub columnsWhole : World → Batch → ℕ → World
+columnsWhole w b zero = w
+columnsWhole w b (suc c) = columnWhole (columnsWhole w b c) b c
+
+-- 01: "Queueing whole tests 9, then 10 by columns."
+unfoldable pub queuedWhole : World → Batch → Res
+queuedWhole w b =
+    cond (ltb (w .state .queued) (w .state .queue))
+    (cond (every (λ c. leb (recordOf b c .count) (w .state .lists)) (w .state .columns))
+    (ok (queueing (columnsWhole w b (w .state .columns)) (b .rows)))
+    (refuse 10))
+    (refuse 9)
+
+-- n rows from row `from` on, copied and buffered
+unfoldable pub taken : World → World → Batch → ℕ → ℕ → Res
+taken w₀ w b from n = bind (partCopied w₀ w b from n) (λ v. ok (buffering v (v .state .buffered .0 + n)))
+
+-- the rows that still fit the slot. 01: "T - buffered"
+abbrev pub space : World → ℕ
+space w = w .state .target .0 - w .state .buffered .0
+
+-- steps 3 and 4: "While rows left > T - buffered: copy that many into every column in order, finish." then "Copy the rest; if
+-- buffered = T, finish." Each turn of step 3 takes a row at least, so that as many turns as rows are enough
+unfoldable pub ifFull : World → Res
+ifFull w = cond (eqb (w .state .buffered .0) (w .state .target .0)) (finished w) (ok w)
+
+unfoldable pub coalesced : ℕ → World → World → Batch → ℕ → Res
+coalesced zero w₀ w b from = bind (taken w₀ w b from (b .rows - from)) ifFull
+coalesced (suc turns) w₀ w b from =
+    elim (ltb (space w) (b .rows - from)) [
+      | true ↦ bind (bind (taken w₀ w b from (space w)) finished) (λ v. coalesced turns w₀ v b (from + space w))
+      | false ↦ bind (taken w₀ w b from (b .rows - from)) ifFull
+    ]
+
+-- step 2: "Limit set and rows > limit: with 0 buffered, queue the batch whole; with buffered > limit, finish the buffered rows, then
+-- queue it whole; else go on."
+abbrev pub isLarge : Limit → ℕ → Bool
+isLarge Limit.Unset rows = false
+isLarge (Limit.Rows limit) rows = ltb (limit .0) rows
+
+abbrev pub overLimit : Limit → ℕ → Bool
+overLimit Limit.Unset n = false
+overLimit (Limit.Rows limit) n = ltb (limit .0) n
+
+unfoldable pub stepped : World → Batch → Res
+stepped w b =
+    elim (isLarge (w .state .limit) (b .rows)) [
+      | true ↦ elim (eqb (w .state .buffered .0) 0) [
+        | true ↦ queuedWhole w b
+        | false ↦ elim (overLimit (w .state .limit) (w .state .buffered .0)) [
+          | true ↦ bind (finished w) (λ v. queuedWhole v b)
+          | false ↦ coalesced (b .rows) w w b 0
+        ]
+      ]
+      | false ↦ coalesced (b .rows) w w b 0
+    ]
+
+-- 01: "Order for a push: 1, 14, then step 1, then 2, 3, then per column 4, 5, 6, and 7 by rows. Room is worked out along the push
+-- steps; the first step without it names the number."; step 1: "0 rows: done, nothing changes, before any batch check."
+abbrev pub orFault : Option Fault → Res → Res
+orFault none r = r
+orFault (some f) r = refuse (f .number)
+
+unfoldable pub pushed : World → Batch → Res
+pushed w b =
+    elim (fitsSetUp w) [
+      | true ↦ elim (stateInRange w) [
+        | true ↦ elim (eqb (b .rows) 0) [
+          | true ↦ ok w
+          | false ↦ let r = stepped w b in orFault (batchFault w b) r
+        ]
+        | false ↦ refuse 14
+      ]
+      | false ↦ refuse 1
+    ]

@@ -1,0 +1,191 @@
+-- A part of a pushed column copied into the slot being filled: values, validity, and the three ways of views.
+use Prim.Native.Nat.{ℕ, zero, suc, _+_, _*_, _-_}
+use mathlib.Core.Bool.{Bool, true, false, _&&_, cond}
+use mathlib.Core.List.{List}
+use mathlib.Core.Option.{Option, none, some}
+use lib.Dec.{ltb, leb, eqb}
+use Rattle.search.specs.First.{first}
+use Rattle.words.specs.Run.{read, put}
+use Rattle.bits.specs.Bits.{appended, ones}
+use Rattle.blocks.specs.Block.{asked}
+use Rattle.books.specs.Entry.{entryOf}
+use Rattle.listings.specs.Listing.{listedOne}
+use Rattle.sound.specs.Change.{withLength}
+use Rattle.views.specs.declared.View.{View}
+use Rattle.views.specs.View.{isInline, withView, shows, longLength, raisedBy, repointed}
+use Rattle.room.specs.declared.Chosen.{Chosen}
+use Rattle.room.specs.Room.{Outcome, opened}
+use Rattle.counts.specs.declared.BufferNumber.{BufferNumber}
+use Rattle.state.specs.declared.OpenBlock.{OpenBlock}
+use Rattle.state.specs.World.{World, columnOf}
+use Rattle.state.specs.Layout.{widthOf, isViews, bitmapPlace, bitmapBytes, cellPlace, listLength}
+use Rattle.rules.specs.Batch.{Batch, recordOf, hasBitmap, rowBit, listedNumber, listedBytes, valuePlace, rowView, sumTo, ideal, Way, copied, attached, compacted, way}
+use Rattle.rules.specs.Steps.{Res, ok, refuse, bind, forEach, withColumn, inState, inSlots, inBooks, counting, listing}
+
+-- the slot being filled
+abbrev pub filling : World → ℕ
+filling w = w .state .place
+
+-- ---- validity and values
+
+-- n rows of the batch from row `from` on, their bits behind the `at` rows of a slot. 01: "spare bits of the last bitmap byte are
+-- zero"; "ones where there is none"
+unfoldable pub bitsCopied : World → Batch → ℕ → ℕ → ℕ → ℕ → ℕ → World
+bitsCopied w b c slot at from n =
+    inSlots w
+    (put (bitmapPlace (w .state) slot c)
+    (appended (read (bitmapPlace (w .state) slot c) (bitmapBytes (w .state)) (w .slots)) at (λ i. rowBit b c (from + i)) n)
+    (w .slots))
+
+-- and their bytes as they stand in the body. 01: "Values under null rows are copied too."
+unfoldable pub valuesCopied : World → Batch → ℕ → ℕ → ℕ → ℕ → ℕ → World
+valuesCopied w b c slot at from n =
+    inSlots w
+    (put (cellPlace (w .state) slot c at) (read (valuePlace w b c from) (n * widthOf (w .state) c) (b .body)) (w .slots))
+
+-- ---- blocks
+
+abbrev pub hasBlock : OpenBlock → Bool
+hasBlock (OpenBlock.Number k) = true
+hasBlock OpenBlock.Closed = false
+
+abbrev pub blockNumber : OpenBlock → ℕ
+blockNumber (OpenBlock.Number k) = k .0
+blockNumber OpenBlock.Closed = 0
+
+-- column c's open block, its number, and the rest of it: capacity less filled length
+abbrev pub isOpen : World → ℕ → Bool
+isOpen w c = hasBlock (columnOf (w .state) c .block)
+
+unfoldable pub openNumber : World → ℕ → ℕ
+openNumber w c = blockNumber (columnOf (w .state) c .block)
+
+unfoldable pub openFilled : World → ℕ → ℕ
+openFilled w c = entryOf (w .books) (openNumber w c) .length .0
+
+unfoldable pub openRest : World → ℕ → ℕ
+openRest w c = entryOf (w .books) (openNumber w c) .capacity .0 - openFilled w c
+
+-- the open block joins its list, if there is one. 01: "close the open block"
+unfoldable pub closed : World → ℕ → World
+closed w c =
+    cond (isOpen w c)
+    (inState (listing w (filling w) c (openNumber w c))
+    (withColumn (w .state) c (columnOf (w .state) c .source) OpenBlock.Closed))
+    w
+
+-- a block opened for a minimum. 01: "Opening a block tests 10, 11, 12"; 10 where the list and the block would pass B
+abbrev pub opening : World → ℕ → ℕ → Outcome → Res
+opening w c min o =
+    byAnswer (o .answer)
+  where
+    byAnswer : Chosen → Res
+    byAnswer (Chosen.Refused number) = refuse number
+    byAnswer (Chosen.At r) =
+        ok
+        (inState (inBooks w (o .books))
+        (withColumn (w .state) c (asked (columnOf (w .state) c .source) (record { 0 = min }) .source) (OpenBlock.Number (r .number))))
+
+unfoldable pub blockOpened : World → ℕ → ℕ → Res
+blockOpened w c min =
+    cond (leb (listLength w (filling w) c + 1) (w .state .lists))
+    (opening w c min
+    (opened (w .books) (w .state .numbers) (w .state .pool .0) (asked (columnOf (w .state) c .source) (record { 0 = min }) .size .0)))
+    (refuse 10)
+
+-- ---- views into the open block
+
+-- the view of row `from` at row `at` of the slot: an inline one as it is; a long one with its bytes copied into the open block at
+-- its filled length, and with the block's index and that offset. 8: "a copied row would start past 4,294,967,295"
+unfoldable pub viewCompacted : World → Batch → ℕ → ℕ → ℕ → Res
+viewCompacted w b c at from =
+    cond (isInline (rowView w b c from))
+    (ok (inSlots w (withView (w .slots) (cellPlace (w .state) (filling w) c at) (rowView w b c from))))
+    (cond (leb (openFilled w c) 4294967295)
+    (ok
+    (record {
+      state = w .state;
+      slots =
+          withView (w .slots) (cellPlace (w .state) (filling w) c at)
+          (repointed (listLength w (filling w) c) (openFilled w c) (rowView w b c from));
+      pool =
+          put (entryOf (w .books) (openNumber w c) .start + openFilled w c) (shows (rowView w b c from) (listedBytes w b c)) (w .pool);
+      books = withLength (w .books) (openNumber w c) (openFilled w c + rowView w b c from .length);
+    }))
+    (refuse 8))
+
+-- n rows from `from` on, at row `at` of the slot on
+unfoldable pub viewsCompacted : World → Batch → ℕ → ℕ → ℕ → ℕ → Res
+viewsCompacted w b c at from n = forEach n (λ v i. viewCompacted v b c (at + i) (from + i)) w
+
+-- how many of the n views from `from` on the walk takes. 01: "walk the part's views while the rest is at least the length (lengths
+-- over 12 lower the rest)": the first view that is longer than what the long ones before it leave, or all of them
+unfoldable pub longBefore : World → Batch → ℕ → ℕ → ℕ → ℕ
+longBefore w b c from k = sumTo k (λ i. longLength (rowView w b c (from + i)))
+
+abbrev pub orAll : ℕ → Option ℕ → ℕ
+orAll n none = n
+orAll n (some i) = i
+
+unfoldable pub walked : World → Batch → ℕ → ℕ → ℕ → ℕ → ℕ
+walked w b c from n rest =
+    orAll n (first (λ i. ltb (rest - longBefore w b c from i) (rowView w b c (from + i) .length)) n)
+
+-- 01: "No open block: open one of size for ideal. Ideal fits the open block's rest: use it. Else walk .., copy those, close the
+-- block, open one for ideal minus bytes copied, copy the remainder there, even when it is empty."
+unfoldable pub partCompacted : World → Batch → ℕ → ℕ → ℕ → ℕ → Res
+partCompacted w b c at from n =
+    cond (isOpen w c)
+    (cond (leb (ideal w b c) (openRest w c)) (viewsCompacted w b c at from n) (split (walked w b c from n (openRest w c))))
+    (bind (blockOpened w c (ideal w b c)) (λ v. viewsCompacted v b c at from n))
+  where
+    split : ℕ → Res
+    split k =
+        bind (viewsCompacted w b c at from k) (λ v.
+        bind (blockOpened (closed v c) c (ideal w b c - longBefore w b c from k)) (λ u.
+        viewsCompacted u b c (at + k) (from + k) (n - k)))
+
+-- ---- views attached
+
+-- the whole list behind what is there, each number listed once more
+unfoldable pub listAttached : World → Batch → ℕ → World
+listAttached w b c = go (recordOf b c .count)
+  where
+    go : ℕ → World
+    go zero = w
+    go (suc i) =
+        let v = go i in
+        listing (inBooks v (listedOne (v .books) (listedNumber b c i))) (filling v) c (listedNumber b c i)
+
+-- n views from `from` on, with k added to the index of long ones
+unfoldable pub viewsRaised : World → Batch → ℕ → ℕ → ℕ → ℕ → ℕ → World
+viewsRaised w b c k at from zero = w
+viewsRaised w b c k at from (suc n) =
+    let v = viewsRaised w b c k at from n in
+    inSlots v (withView (v .slots) (cellPlace (v .state) (filling v) c (at + n)) (raisedBy k (rowView v b c (from + n))))
+
+-- 01: "Otherwise: close the open block, attach the whole list, add the earlier list length to the index of long views only.";
+-- "Attaching tests 10, the block it closes counted."
+unfoldable pub partAttached : World → Batch → ℕ → ℕ → ℕ → ℕ → Res
+partAttached w b c at from n =
+    cond (leb (listLength (closed w c) (filling w) c + recordOf b c .count) (w .state .lists))
+    (ok (viewsRaised (listAttached (closed w c) b c) b c (listLength (closed w c) (filling w) c) at from n))
+    (refuse 10)
+
+-- ---- a part of a column, and of every column
+
+abbrev pub byWay : World → Batch → ℕ → ℕ → ℕ → ℕ → Way → Res
+byWay w b c at from n copied = ok (valuesCopied w b c (filling w) at from n)
+byWay w b c at from n attached = partAttached w b c at from n
+byWay w b c at from n compacted = partCompacted w b c at from n
+
+-- n rows of column c from row `from` on, behind those buffered. w₀ is the world at the push: "Ideal" and "actual" are of the whole
+-- pushed column, decided once
+unfoldable pub columnCopied : World → World → Batch → ℕ → ℕ → ℕ → Res
+columnCopied w₀ w b c from n =
+    byWay (bitsCopied w b c (filling w) (w .state .buffered .0) from n) b c (w .state .buffered .0) from n
+    (cond (isViews (w .state) c) (way w₀ b c) copied)
+
+-- 01: "copy that many into every column in order"; the rows are then buffered
+unfoldable pub partCopied : World → World → Batch → ℕ → ℕ → Res
+partCopied w₀ w b from n = forEach (w .state .columns) (λ v c. columnCopied w₀ v b c from n) w

@@ -1,0 +1,23 @@
+-- The world of a call: the state, and the three memories that are lent beside it.
+use Prim.Native.Nat.{ℕ}
+use mathlib.Core.List.{List}
+use lib.ListN.{getD}
+use Rattle.blocks.specs.Block.{fresh}
+use Rattle.state.specs.declared.BatchCoalescer.{BatchCoalescer}
+use Rattle.state.specs.declared.Column.{Column}
+use Rattle.state.specs.declared.OpenBlock.{OpenBlock}
+
+-- 01, "Lent memory": state, slots, pool and books
+pub record World : Type 0 where
+  pub state : BatchCoalescer
+  pub slots : List ℕ
+  pub pool : List ℕ
+  pub books : List ℕ
+
+-- a column past the last
+abbrev pub noColumn : Column
+noColumn = record { kind = 0; source = fresh; block = OpenBlock.Closed }
+
+-- column c of the state
+unfoldable pub columnOf : BatchCoalescer → ℕ → Column
+columnOf s c = getD (s .column) c noColumn
