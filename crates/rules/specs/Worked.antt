@@ -1,0 +1,127 @@
+-- The worked examples of 01's "Both sides of each edge": one table, one computed test, and the rule at each entry.
+use Prim.Native.Nat.{ℕ, _<_}
+use mathlib.Core.Path.{_≡_}
+use mathlib.Core.Bool.{Bool, _&&_}
+use mathlib.Core.List.{List, [], _∷_, _++_, map}
+use mathlib.Core.Option.{Option, none, some}
+use lib.Dec.{T}
+use lib.ListN.{length, getD, drop}
+use Rattle.search.specs.Cases.{and-left, and-right}
+use Rattle.search.specs.Table.{tested, at-entry, same, same→eq}
+use Rattle.blocks.specs.declared.BufferSource.{BufferSource}
+use Rattle.rules.specs.Batch.{recordOf, hasBitmap, listedNumber, listedBytes, valuePlace, rowView, rowBit, batchCell, batchRow, batchRows, sumTo, ideal, actual, wayOf, way}
+use Rattle.rules.specs.Checks.{keepsRules, inBody, bitmapNeed, liesInBody, allHeld, validRow, badRow, columnFault, batchFault}
+use Rattle.rules.specs.Ranges.{inBounds, fitsSetUp, columnInRange, listInRange, slotInRange, stateInRange}
+use Rattle.rules.specs.Steps.{forEach, counting, listing, queueing}
+use Rattle.rules.specs.Views.{bitsCopied, valuesCopied, openNumber, openFilled, openRest, closed, blockOpened, viewCompacted, viewsCompacted, longBefore, walked, partCompacted, listAttached, viewsRaised, partAttached, columnCopied, partCopied}
+use Rattle.rules.specs.Push.{allClosed, finished, columnWhole, columnsWhole, queuedWhole, taken, ifFull, coalesced, stepped, pushed}
+use Rattle.rules.specs.Calls.{Answered, tested as tested′rules, columnsFor, newState, setUp, pushCall, finishCall, uncounted, listDropped, listsDropped, dropped, dropCall, registerCall, letGoCall, placeOf, isRow, readRow, bufferNumberCall, bufferCall, limited, limitOf, bufferedCount, hasCompleted, isEmpty}
+use Rattle.state.specs.World.{columnOf}
+use Rattle.state.specs.Layout.{widthOf, isViews, valuesBytes, bitmapBytes, listBytes, columnsBytes, slotBytes, valuesPlace, bitmapPlace, listPlace, cellPlace, slotsLength, booksLength, rowsIn, listLength, nextSlot, slotBefore, queuedSlot}
+use Rattle.state.specs.Rows.{upTo, joined, numberAt, bufferAt, cellOf, slotCell, slotRow, slotRows, queuedBatches, queuedRows, bufferedRows}
+use Rattle.blocks.specs.Block.{fresh, doubled, enough, doublings, grown, kept, asked, afterAsks}
+use Rattle.books.specs.Entry.{usedOf, entryOf, withEntry, isFree, isFreeAt, shareByte, occupies}
+use Rattle.books.specs.Search.{lowestFree, clearAt, lowestGap, pastEntry, swept}
+use Rattle.listings.specs.Listing.{settled, withUsed, freed, taken as taken′listings, freeUnused, oneMore, withListings, listedOne, unlistedOne, released, overList}
+use Rattle.sound.specs.Sound.{filledBytes, countWith}
+use Rattle.sound.specs.Change.{orFree, withLength}
+use Rattle.room.specs.Room.{chosen, openedAs, opened, tried}
+use Rattle.pool.specs.Register.{registered, isHeld, letGo}
+use Rattle.pool.specs.Read.{isThere, readRefusal, partOf, fitsIn, inRange}
+use Rattle.tallies.specs.Tally.{tallyPlace, tallyOf, withTally}
+use Rattle.views.specs.View.{viewOf, withView, inlineBytes, zeroFrom, isPadded, inBuffer, isValid, shows, filled, longLength, repointed, raisedBy}
+use Rattle.bits.specs.Bits.{bitIn, bitAt, bitsFrom, ones, byteWith, withBit, appended, afterwards, valueOf, across, headBits}
+use Rattle.kinds.specs.Kind.{kindOf, widthAt, isView}
+use Rattle.words.specs.Word.{wordOf, word32, withWord32}
+use Rattle.words.specs.Run.{read, put}
+use Rattle.search.specs.First.{firstFrom}
+use Rattle.search.specs.Every.{every}
+use Rattle.rules.specs.Scene.{wordBytes, wordsBytes, fresh as fresh′scene, numbers, numbered, court, pushes, bytesOfCell, bytesOfRow, bytesOfRows, viewCourt, sample, holding, filledBlock, viewWords, viewed, figures, left, twice, squeezed, emptyBlock, mixed, behind}
+
+-- one row of the table
+pub data Case : Type 0 where
+  -- what is asked of a fresh block size, ask after ask, and the answers
+  asks : List ℕ → List ℕ → Case
+  -- target, limit, the rows of each push, numbered through from 0; the rows of each queued batch, and those buffered
+  cuts : ℕ → Option ℕ → List ℕ → List (List ℕ) → List ℕ → Case
+  -- a push of views; what it leaves (its answer, the list's length, the open block, each buffer's start, capacity and length), and
+  -- the bytes that the buffered rows show
+  views : Answered → List ℕ → List ℕ → Case
+
+-- the answers of a source to ask after ask
+unfoldable pub answers : BufferSource → List ℕ → List ℕ
+answers source [] = []
+answers source (m ∷ ms) =
+    asked source (record { 0 = m }) .size .0 ∷ answers (asked source (record { 0 = m }) .source) ms
+
+-- what a row says of the definitions
+unfoldable pub Meant : Case → Type 0
+Meant (asks ms as′) = answers fresh ms ≡ as′
+Meant (cuts t l ns qs bs) =
+    (map bytesOfRows (queuedBatches (pushes (court t l) 0 ns)) ≡ qs) × (bytesOfRows (bufferedRows (pushes (court t l) 0 ns)) ≡ bs)
+Meant (views a fs bs) = (left a ≡ fs) × (bytesOfRows (bufferedRows (a .world)) ≡ bs)
+
+-- the test of a row that is computed
+abbrev pub sameAll : List (List ℕ) → List (List ℕ) → Bool
+sameAll [] [] = Bool.true
+sameAll [] (y ∷ ys) = Bool.false
+sameAll (x ∷ xs) [] = Bool.false
+sameAll (x ∷ xs) (y ∷ ys) = same x y && sameAll xs ys
+
+sameAll→eq : (xs ys : List (List ℕ)) → T (sameAll xs ys) → xs ≡ ys
+sameAll→eq [] [] t = mathlib.Core.Path.refl
+sameAll→eq [] (y ∷ ys) t = absurd t
+sameAll→eq (x ∷ xs) [] t = absurd t
+sameAll→eq (x ∷ xs) (y ∷ ys) t =
+    let p : x ≡ y = same→eq x y (and-left (same x y) (sameAll xs ys) t) in
+    let q : xs ≡ ys = sameAll→eq xs ys (and-right (same x y) (sameAll xs ys) t) in
+    cc
+
+unfoldable pub right : ℕ → Case → Bool
+right i (asks ms as′) = same (answers fresh ms) as′
+right i (cuts t l ns qs bs) =
+    sameAll (map bytesOfRows (queuedBatches (pushes (court t l) 0 ns))) qs
+    && same (bytesOfRows (bufferedRows (pushes (court t l) 0 ns))) bs
+right i (views a fs bs) = same (left a) fs && same (bytesOfRows (bufferedRows (a .world))) bs
+
+right→meant : (i : ℕ) (c : Case) → T (right i c) → Meant c
+unfolding right Meant
+right→meant i (asks ms as′) t = same→eq (answers fresh ms) as′ t
+right→meant i (cuts t l ns qs bs) u = search (sameAll→eq, same→eq, and-left, and-right)
+right→meant i (views a fs bs) u = search (same→eq, and-left, and-right)
+
+-- 01: "Fresh block asks: W1 1 gives 8,192; W2 8,192 gives 8,192; W3 8,193 gives 16,384; W4 16,384 gives 32,768;
+-- W5 2,000,000 gives 2,000,000, then 1 gives 1,048,576; 1,048,576 gives 1,048,576."
+-- "W6 T 4, pushes 3 and 3: queued 4, buffered 2. W7 T 4, push 8: queued 4, 4, buffered 0. W8 T 8, limit 2, pushes 2, 3, 3: queued 5, 3.
+-- W9 T 4, limit 5, push 6: queued 6; push 5 instead: queued 4, buffered 1."
+-- "W10 ideal 100: actual 200 attaches, 201 compacts."
+-- "W11 open block 8,192 filled to 8,092, its size last asked; ideal 130, actual 300, lengths 60, 50, 20: block ends at 8,152, the new one
+-- is 16,384 with 70 bytes. The 20 is not squeezed in first."
+-- and two of "Tempting and wrong": "dropping the empty last block"; "raising the index of inline views, which hold text there"
+abbrev pub table : List Case
+table =
+    asks (1 ∷ []) (8_192 ∷ [])
+    ∷ asks (8_192 ∷ []) (8_192 ∷ [])
+    ∷ asks (8_193 ∷ []) (16_384 ∷ [])
+    ∷ asks (16_384 ∷ []) (32_768 ∷ [])
+    ∷ asks (2_000_000 ∷ 1 ∷ []) (2_000_000 ∷ 1_048_576 ∷ [])
+    ∷ asks (1_048_576 ∷ []) (1_048_576 ∷ [])
+    ∷ cuts 4 none (3 ∷ 3 ∷ []) ((0 ∷ 1 ∷ 2 ∷ 3 ∷ []) ∷ []) (4 ∷ 5 ∷ [])
+    ∷ cuts 4 none (8 ∷ []) ((0 ∷ 1 ∷ 2 ∷ 3 ∷ []) ∷ (4 ∷ 5 ∷ 6 ∷ 7 ∷ []) ∷ []) []
+    ∷ cuts 8 (some 2) (2 ∷ 3 ∷ 3 ∷ []) ((0 ∷ 1 ∷ 2 ∷ 3 ∷ 4 ∷ []) ∷ (5 ∷ 6 ∷ 7 ∷ []) ∷ []) []
+    ∷ cuts 4 (some 5) (6 ∷ []) ((0 ∷ 1 ∷ 2 ∷ 3 ∷ 4 ∷ 5 ∷ []) ∷ []) []
+    ∷ cuts 4 (some 5) (5 ∷ []) ((0 ∷ 1 ∷ 2 ∷ 3 ∷ []) ∷ []) (4 ∷ [])
+    ∷ views (twice 200) (0 ∷ 1 ∷ 0 ∷ 0 ∷ 0 ∷ 200 ∷ 100 ∷ []) (upTo 100 sample)
+    ∷ views (twice 201) (0 ∷ 0 ∷ 1 ∷ 1 ∷ 0 ∷ 201 ∷ 100 ∷ 201 ∷ 8_192 ∷ 100 ∷ []) (upTo 100 sample)
+    ∷ views squeezed (0 ∷ 1 ∷ 1 ∷ 2 ∷ 0 ∷ 8_192 ∷ 8_152 ∷ 8_192 ∷ 300 ∷ 130 ∷ 8_492 ∷ 16_384 ∷ 70 ∷ []) (upTo 130 sample)
+    ∷ views emptyBlock
+    (0 ∷ 2 ∷ 1 ∷ 3 ∷ 0 ∷ 4_096 ∷ 4_056 ∷ 4_096 ∷ 300 ∷ 120 ∷ 4_396 ∷ 8_192 ∷ 0 ∷ 12_588 ∷ 16_384 ∷ 60 ∷ [])
+    (drop 60 (upTo 120 sample))
+    ∷ views behind (0 ∷ 2 ∷ 0 ∷ 0 ∷ 0 ∷ 40 ∷ 40 ∷ 40 ∷ 40 ∷ 40 ∷ [])
+    (upTo 20 sample ++ (97 ∷ 98 ∷ 99 ∷ 100 ∷ 101 ∷ 102 ∷ 103 ∷ 104 ∷ upTo 20 sample))
+    ∷ []
+
+-- every row of the table holds of the definitions
+pub worked : (d : Case) (k : ℕ) → k < length table → Meant (getD table k d)
+unfolding right answers recordOf hasBitmap listedNumber listedBytes valuePlace rowView rowBit batchCell batchRow batchRows sumTo ideal actual wayOf way keepsRules inBody bitmapNeed liesInBody allHeld validRow badRow columnFault batchFault inBounds fitsSetUp columnInRange listInRange slotInRange stateInRange forEach counting listing queueing bitsCopied valuesCopied openNumber openFilled openRest closed blockOpened viewCompacted viewsCompacted longBefore walked partCompacted listAttached viewsRaised partAttached columnCopied partCopied allClosed finished columnWhole columnsWhole queuedWhole taken ifFull coalesced stepped pushed tested′rules columnsFor newState setUp pushCall finishCall uncounted listDropped listsDropped dropped dropCall registerCall letGoCall placeOf isRow readRow bufferNumberCall bufferCall limited limitOf bufferedCount hasCompleted isEmpty columnOf widthOf isViews valuesBytes bitmapBytes listBytes columnsBytes slotBytes valuesPlace bitmapPlace listPlace cellPlace slotsLength booksLength rowsIn listLength nextSlot slotBefore queuedSlot upTo joined numberAt bufferAt cellOf slotCell slotRow slotRows queuedBatches queuedRows bufferedRows doubled enough doublings grown kept asked afterAsks usedOf entryOf withEntry isFree isFreeAt shareByte occupies lowestFree clearAt lowestGap pastEntry swept settled withUsed freed taken′listings freeUnused oneMore withListings listedOne unlistedOne released overList filledBytes countWith orFree withLength chosen openedAs opened tried registered isHeld letGo isThere readRefusal partOf fitsIn inRange tallyPlace tallyOf withTally viewOf withView inlineBytes zeroFrom isPadded inBuffer isValid shows filled longLength repointed raisedBy bitIn bitAt bitsFrom ones byteWith withBit appended afterwards valueOf across headBits kindOf widthAt isView wordOf word32 withWord32 read put firstFrom every wordBytes wordsBytes fresh′scene numbers numbered court pushes bytesOfCell bytesOfRow bytesOfRows viewCourt sample holding filledBlock viewWords viewed figures left twice squeezed emptyBlock mixed behind
+worked d k h = right→meant k (getD table k d) (at-entry right table d tt k h)

@@ -1,2 +1,0 @@
--- 01's worked examples.
-pub mod Worked
