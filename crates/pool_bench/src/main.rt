@@ -4,7 +4,6 @@
 ghost use Prim.Native.Nat.{_≤_, _<_};
 ghost use lib.ListN.{length};
 use books::Entry;
-use counts::BufferNumber;
 use counts::ByteCount;
 use counts::ByteSum;
 use libc::STDIN_FILENO;
@@ -19,49 +18,12 @@ const OPEN: u32 = 2;
 
 const TEST: u32 = 3;
 
-fn register(books: &mut [u8], pool: &mut [u8]) -> Registered {
-    if pool::is_ready(books, pool, 65536) {
-        pool::register(books, pool, 65536, b"Bhavani", ByteCount(16))
-    } else {
-        Registered::Refused(14)
-    }
-}
-
-fn let_go(books: &mut [u8], pool: &[u8], number: BufferNumber) -> u32 {
-    if pool::is_ready(books, pool, 65536) {
-        pool::let_go(books, number)
-    } else {
-        14
-    }
-}
-
-fn open(books: &mut [u8], pool: &[u8]) -> Chosen {
-    if pool::is_ready(books, pool, 65536) {
-        room::open_block(books, 65536, pool.len() as u32, ByteSum(8192))
-    } else {
-        Chosen::Refused(14)
-    }
-}
-
-fn unlist(books: &mut [u8], pool: &[u8], number: BufferNumber) -> u32 {
-    let i = number.0;
-    if 65536 <= i {
-        return 13;
-    }
-    if pool::is_ready(books, pool, 65536) {
-        listings::unlist_one(books, i as usize);
-        0
-    } else {
-        14
-    }
-}
-
 // A buffer registered, and let go again; answers its number, or 100,000 and the refusal.
 fn do_register(books: &mut [u8], pool: &mut [u8]) -> u32 {
-    let r = register(books, pool);
+    let r = desk::register(books, pool, 65536, b"Bhavani", ByteCount(16));
     match r {
         Registered::Number(k) => {
-            let_go(books, pool, k);
+            desk::let_go(books, pool, 65536, k);
             k.0
         }
         Registered::Refused(number) => refused(number),
@@ -70,11 +32,11 @@ fn do_register(books: &mut [u8], pool: &mut [u8]) -> u32 {
 
 // A block opened, and unlisted again; answers its start, or 100,000 and the refusal.
 fn do_open(books: &mut [u8], pool: &[u8]) -> u32 {
-    let r = open(books, pool);
+    let r = desk::open_block(books, pool, 65536, ByteSum(8192));
     match r {
         Chosen::At(room) => {
             let number = room.number;
-            unlist(books, pool, number);
+            desk::unlist_one(books, pool, 65536, number);
             room.start
         }
         Chosen::Refused(number) => refused(number),

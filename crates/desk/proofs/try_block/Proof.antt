@@ -1,17 +1,18 @@
--- `pool_story::try_block` meets its contract.
+-- `desk::try_block` meets its contract.
 use borrow.Author.Needs.{needs}
+use Rattle.desk.specs.Few.{few-says}
 use Rattle.pool.specs.Ready.{in-use, for-numbers, few-bytes}
-use Rattle.pool_story.proofs.try_block.Statement.{statement}
-use Rattle.pool_story.proofs.try_block.Tie as tie
+use Rattle.desk.proofs.try_block.Statement.{statement}
+use Rattle.desk.proofs.try_block.Tie as tie
 
-is-ready-requires : tie.Need-is-ready-requires
-is-ready-requires c κs = search needs
+is-open-requires : tie.Need-is-open-requires
+is-open-requires c κs = search needs
 
 cast-try-block : tie.Need-cast-try-block
 cast-try-block c = record { fits = search (few-bytes, needs) }
 
 try-block-requires : tie.Need-try-block-requires
-try-block-requires c κs = (search (in-use, needs), search (for-numbers, needs), search needs)
+try-block-requires c κs = (search (in-use, needs), search (for-numbers, needs), search (few-says, needs))
 
 same-length : tie.Need-same-length
 same-length c = search needs
@@ -29,7 +30,7 @@ pub try-block-spec : {M : Type 1} → statement M
 try-block-spec =
     tie.close
     (tie.spec
-    is-ready-requires
+    is-open-requires
     cast-try-block
     try-block-requires
     same-length

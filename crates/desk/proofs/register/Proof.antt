@@ -1,17 +1,15 @@
--- `pool_bench::register` meets its contract.
+-- `desk::register` meets its contract.
 use borrow.Author.Needs.{needs}
+use Rattle.desk.specs.Few.{few-says}
 use Rattle.pool.specs.Ready.{in-use, for-numbers, few-bytes}
-use Rattle.pool_bench.proofs.register.Statement.{statement}
-use Rattle.pool_bench.proofs.register.Tie as tie
+use Rattle.desk.proofs.register.Statement.{statement}
+use Rattle.desk.proofs.register.Tie as tie
 
-is-ready-requires : tie.Need-is-ready-requires
-is-ready-requires c κs = search needs
-
-slice-aggregate-register : tie.Need-slice-aggregate-register
-slice-aggregate-register c = search needs
+is-open-requires : tie.Need-is-open-requires
+is-open-requires c κs = search needs
 
 register-requires : tie.Need-register-requires
-register-requires c κs = (search (in-use, needs), search (for-numbers, needs), search needs, search (few-bytes, needs))
+register-requires c κs = (search (in-use, needs), search (for-numbers, needs), search (few-says, needs), search (few-bytes, needs))
 
 same-length : tie.Need-same-length
 same-length c = search needs
@@ -35,8 +33,7 @@ pub register-spec : {M : Type 1} → statement M
 register-spec =
     tie.close
     (tie.spec
-    is-ready-requires
-    slice-aggregate-register
+    is-open-requires
     register-requires
     same-length
     same-length-2

@@ -1,14 +1,17 @@
--- `pool_story::list` meets its contract.
+-- `desk::list_one` meets its contract.
 use borrow.Author.Needs.{needs}
 use Rattle.pool.specs.Ready.{for-entry}
-use Rattle.pool_story.proofs.list.Statement.{statement}
-use Rattle.pool_story.proofs.list.Tie as tie
+use Rattle.desk.proofs.list_one.Statement.{statement}
+use Rattle.desk.proofs.list_one.Tie as tie
 
 returns : tie.Need-returns
 returns c = search needs
 
-is-ready-requires : tie.Need-is-ready-requires
-is-ready-requires c κs = search needs
+is-open-requires : tie.Need-is-open-requires
+is-open-requires c κs = search needs
+
+cast-list-one : tie.Need-cast-list-one
+cast-list-one c = search needs
 
 list-one-requires : tie.Need-list-one-requires
 list-one-requires c κs = search (for-entry, needs)
@@ -25,12 +28,13 @@ same-length-2 c = search needs
 returns-3 : tie.Need-returns-3
 returns-3 c = search needs
 
-pub list-spec : {M : Type 1} → statement M
-list-spec =
+pub list-one-spec : {M : Type 1} → statement M
+list-one-spec =
     tie.close
     (tie.spec
     returns
-    is-ready-requires
+    is-open-requires
+    cast-list-one
     list-one-requires
     same-length
     returns-2

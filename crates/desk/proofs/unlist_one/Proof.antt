@@ -1,14 +1,14 @@
--- `pool_bench::unlist` meets its contract.
+-- `desk::unlist_one` meets its contract.
 use borrow.Author.Needs.{needs}
 use Rattle.pool.specs.Ready.{for-used, for-entry}
-use Rattle.pool_bench.proofs.unlist.Statement.{statement}
-use Rattle.pool_bench.proofs.unlist.Tie as tie
+use Rattle.desk.proofs.unlist_one.Statement.{statement}
+use Rattle.desk.proofs.unlist_one.Tie as tie
 
 returns : tie.Need-returns
 returns c = search needs
 
-is-ready-requires : tie.Need-is-ready-requires
-is-ready-requires c κs = search needs
+is-open-requires : tie.Need-is-open-requires
+is-open-requires c κs = search needs
 
 cast-unlist-one : tie.Need-cast-unlist-one
 cast-unlist-one c = search needs
@@ -28,12 +28,12 @@ same-length-2 c = search needs
 returns-3 : tie.Need-returns-3
 returns-3 c = search needs
 
-pub unlist-spec : {M : Type 1} → statement M
-unlist-spec =
+pub unlist-one-spec : {M : Type 1} → statement M
+unlist-one-spec =
     tie.close
     (tie.spec
     returns
-    is-ready-requires
+    is-open-requires
     cast-unlist-one
     unlist-one-requires
     same-length

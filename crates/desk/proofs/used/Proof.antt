@@ -1,8 +1,8 @@
--- `pool_story::used` meets its contract.
+-- `desk::used` meets its contract.
 use borrow.Author.Needs.{needs}
 use Rattle.pool.specs.Ready.{has-word}
-use Rattle.pool_story.proofs.used.Statement.{statement}
-use Rattle.pool_story.proofs.used.Tie as tie
+use Rattle.desk.proofs.used.Statement.{statement}
+use Rattle.desk.proofs.used.Tie as tie
 
 has-entries-requires : tie.Need-has-entries-requires
 has-entries-requires c κs = search needs

@@ -1,8 +1,8 @@
--- `pool_story::end_trial` meets its contract.
+-- `desk::end_trial` meets its contract.
 use borrow.Author.Needs.{needs}
 use Rattle.pool.specs.Ready.{has-used}
-use Rattle.pool_story.proofs.end_trial.Statement.{statement}
-use Rattle.pool_story.proofs.end_trial.Tie as tie
+use Rattle.desk.proofs.end_trial.Statement.{statement}
+use Rattle.desk.proofs.end_trial.Tie as tie
 
 has-entries-requires : tie.Need-has-entries-requires
 has-entries-requires c κs = search needs

@@ -1,11 +1,11 @@
--- `pool_story::let_go` meets its contract.
+-- `desk::let_go` meets its contract.
 use borrow.Author.Needs.{needs}
 use Rattle.pool.specs.Ready.{for-used}
-use Rattle.pool_story.proofs.let_go.Statement.{statement}
-use Rattle.pool_story.proofs.let_go.Tie as tie
+use Rattle.desk.proofs.let_go.Statement.{statement}
+use Rattle.desk.proofs.let_go.Tie as tie
 
-is-ready-requires : tie.Need-is-ready-requires
-is-ready-requires c κs = search needs
+is-open-requires : tie.Need-is-open-requires
+is-open-requires c κs = search needs
 
 let-go-requires : tie.Need-let-go-requires
 let-go-requires c κs = search (for-used, needs)
@@ -25,4 +25,4 @@ returns-2 c = search needs
 pub let-go-spec : {M : Type 1} → statement M
 let-go-spec =
     tie.close
-    (tie.spec is-ready-requires let-go-requires same-length returns same-length-2 returns-2)
+    (tie.spec is-open-requires let-go-requires same-length returns same-length-2 returns-2)

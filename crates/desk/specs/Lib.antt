@@ -1,0 +1,2 @@
+-- What the desk tests besides the pool.
+pub mod Few
