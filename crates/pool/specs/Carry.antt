@@ -7,4 +7,4 @@ use lib.ListN.{getD, set}
 -- the bytes that stood at `from` (carried-agrees), and no other byte changes (carried-framed)
 unfoldable pub carried : List ℕ → ℕ → ℕ → ℕ → List ℕ
 carried pool from to zero = pool
-carried pool from to (suc i) = set (carried pool from to i) (to + i) (getD (carried pool from to i) (from + i) 0)
+carried pool from to (suc i) = let p = carried pool from to i in set p (to + i) (getD p (from + i) 0)

@@ -4,6 +4,7 @@ use mathlib.Core.Bool.{Bool, not, cond}
 use mathlib.Core.List.{List}
 use lib.Dec.{ltb, eqb}
 use Rattle.words.specs.Word.{word32}
+use Rattle.words.specs.Run.{read}
 use Rattle.bits.specs.Bits.{bitsFrom}
 use Rattle.views.specs.declared.View.{View}
 use Rattle.views.specs.View.{viewOf, longLength}
@@ -50,6 +51,10 @@ hasBitmap r = not (eqb (r .validity) 4294967295)
 -- the buffer number at place i of column c's list. 01: "The list is u32 buffer numbers."
 unfoldable pub listedNumber : Batch → ℕ → ℕ → ℕ
 listedNumber b c i = word32 (b .body) (recordOf b c .list + 4 * i)
+
+-- the list of column c, as it stands in the body
+unfoldable pub listOf : Batch → ℕ → List ℕ
+listOf b c = read (recordOf b c .list) (4 * recordOf b c .count) (b .body)
 
 -- the bytes of that buffer
 unfoldable pub listedBytes : World → Batch → ℕ → ℕ → List ℕ

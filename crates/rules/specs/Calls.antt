@@ -1,20 +1,19 @@
 -- Every call: its answer, and the world after it. A refusal gives its number, and the world is the old one.
 use Prim.Native.Nat.{ℕ, zero, suc, _+_, _*_, _-_}
-use mathlib.Core.Bool.{Bool, true, false, _&&_, not, cond}
+use mathlib.Core.Bool.{Bool, true, false, _&&_, cond}
 use mathlib.Core.List.{List, [], _∷_}
-use lib.ListN.{length, getD, replicate}
-use lib.Dec.{ltb, leb, eqb}
-use Rattle.words.specs.Run.{put}
+use mathlib.Core.Option.{Option, none, some}
+use lib.ListN.{length, replicate}
+use lib.Dec.{ltb, eqb}
+use Rattle.words.specs.Run.{read}
 use Rattle.bits.specs.Bits.{bitsFrom}
 use Rattle.blocks.specs.Block.{fresh}
-use Rattle.counts.specs.declared.BufferNumber.{BufferNumber}
-use Rattle.counts.specs.declared.ByteCount.{ByteCount}
-use Rattle.counts.specs.declared.RowCount.{RowCount}
-use Rattle.listings.specs.Listing.{unlistedOne}
+use Rattle.listings.specs.Listing.{unlistedOne, overList}
+use Rattle.sound.specs.Sound.{filledBytes}
 use Rattle.views.specs.declared.View.{View}
 use Rattle.views.specs.View.{viewOf, isInline}
 use Rattle.pool.specs.declared.Registered.{Registered}
-use Rattle.pool.specs.Register.{Outcome, registered, refusalOf, Gone, letGo}
+use Rattle.pool.specs.Register.{registered, letGo}
 use Rattle.pool.specs.Read.{readRefusal, partOf}
 use Rattle.state.specs.declared.BatchCoalescer.{BatchCoalescer}
 use Rattle.state.specs.declared.Column.{Column}
@@ -22,12 +21,12 @@ use Rattle.state.specs.declared.Limit.{Limit}
 use Rattle.state.specs.declared.OpenBlock.{OpenBlock}
 use Rattle.state.specs.declared.Place.{Place}
 use Rattle.state.specs.declared.RowAnswer.{RowAnswer}
-use Rattle.state.specs.World.{World, noColumn, columnOf}
-use Rattle.state.specs.Layout.{widthOf, isViews, bitmapPlace, cellPlace, slotsLength, booksLength, rowsIn, listLength, queuedSlot}
-use Rattle.state.specs.Rows.{numberAt}
+use Rattle.state.specs.World.{World, noColumn}
+use Rattle.state.specs.Layout.{widthOf, isViews, bitmapPlace, listPlace, cellPlace, rowsIn, listLength}
+use Rattle.state.specs.Rows.{Cell, null, value, listedAt, frontSlot}
 use Rattle.rules.specs.Batch.{Batch}
-use Rattle.rules.specs.Ranges.{inBounds, fitsSetUp, stateInRange}
-use Rattle.rules.specs.Steps.{Res, ok, refuse, withLimit, withCounts, inState, inBooks, counting}
+use Rattle.rules.specs.Ranges.{fitsSetUp, tested}
+use Rattle.rules.specs.Steps.{Res, ok, refuse, each, withCounts, inState, inBooks, counting}
 use Rattle.rules.specs.Push.{pushed, finished}
 
 -- an answer, and the world that goes with it
@@ -40,48 +39,57 @@ abbrev pub orOld : World → Res → Answered
 orOld w (ok v) = record { number = 0; world = v }
 orOld w (refuse number) = record { number = number; world = w }
 
--- the tests that every call after set-up begins with: 1, then 14. The number of the refusal, and 0 where there is none
-unfoldable pub tested : World → ℕ
-tested w = cond (fitsSetUp w) (cond (stateInRange w) 0 14) 1
-
 -- ---- set-up
 
--- the kinds asked for, one a column, and no more columns than 16
+-- what set-up is asked for
+pub record Wanted : Type 0 where
+  pub target : ℕ
+  pub rows : ℕ
+  pub queue : ℕ
+  pub kinds : List ℕ
+  pub lists : ℕ
+  pub numbers : ℕ
+  pub pool : ℕ
+
+-- the column of a kind, and n columns: of the kinds asked for, then none
+abbrev pub ofKind : ℕ → Column
+ofKind k = record { kind = k; source = fresh; block = OpenBlock.Closed }
+
 unfoldable pub columnsFor : List ℕ → ℕ → List Column
 columnsFor kinds zero = []
-columnsFor kinds (suc n) = columnOfKind kinds ∷ columnsFor (restOf kinds) n
-  where
-    columnOfKind : List ℕ → Column
-    columnOfKind [] = noColumn
-    columnOfKind (k ∷ ks) = record { kind = k; source = fresh; block = OpenBlock.Closed }
-
-    restOf : List ℕ → List ℕ
-    restOf [] = []
-    restOf (k ∷ ks) = ks
+columnsFor [] (suc n) = noColumn ∷ columnsFor [] n
+columnsFor (k ∷ ks) (suc n) = ofKind k ∷ columnsFor ks n
 
 -- the state that set-up makes. 01: "Set-up empties state and books, sets no limit, and changes no slot or pool byte."
-unfoldable pub newState : ℕ → ℕ → ℕ → List ℕ → ℕ → ℕ → ℕ → BatchCoalescer
-newState target rows queue kinds lists numbers pool =
+unfoldable pub newState : Wanted → BatchCoalescer
+newState a =
     record {
-      target = record { 0 = target };
-      rows = record { 0 = rows };
-      queue = queue;
-      columns = length kinds;
-      lists = lists;
-      numbers = numbers;
-      pool = record { 0 = pool };
+      target = record { 0 = a .target };
+      rows = record { 0 = a .rows };
+      queue = a .queue;
+      columns = length (a .kinds);
+      lists = a .lists;
+      numbers = a .numbers;
+      pool = record { 0 = a .pool };
       limit = Limit.Unset;
       place = 0;
       queued = 0;
       buffered = record { 0 = 0 };
-      column = columnsFor kinds 16;
+      column = columnsFor (a .kinds) 16;
     }
 
-unfoldable pub setUp : BatchCoalescer → World → Answered
-setUp s w = elim (fitsSetUp (inState w s)) [
-  | true ↦ record { number = 0; world = record { state = s; slots = w .slots; pool = w .pool; books = replicate (length (w .books)) 0 } }
-  | false ↦ record { number = 1; world = w }
-]
+-- the state that a refused set-up hands back: its target is 0, and every call on it refuses 1
+abbrev pub noState : BatchCoalescer
+noState = newState (record { target = 0; rows = 0; queue = 0; kinds = []; lists = 0; numbers = 0; pool = 0 })
+
+-- new: a state, with slots and pool as they were and books of zeros; or refusal 1, and nothing changed
+unfoldable pub setUpCall : Wanted → List ℕ → List ℕ → List ℕ → Answered
+setUpCall a slots pool books =
+    elim (fitsSetUp (record { state = newState a; slots = slots; pool = pool; books = books })) [
+      | true ↦
+          record { number = 0; world = record { state = newState a; slots = slots; pool = pool; books = replicate (length books) 0 } }
+      | false ↦ record { number = 1; world = record { state = noState; slots = slots; pool = pool; books = books } }
+    ]
 
 -- ---- the calls
 
@@ -94,19 +102,14 @@ unfoldable pub finishCall : World → Answered
 finishCall w = orOld w (cond (eqb (tested w) 0) (finished w) (refuse (tested w)))
 
 -- the counts of a slot zero. 01: "a dropped slot's counts become zero"
-unfoldable pub uncounted : World → ℕ → ℕ → World
-uncounted w slot zero = w
-uncounted w slot (suc k) = counting (uncounted w slot k) slot k 0
+unfoldable pub uncounted : World → ℕ → World
+uncounted w slot = each (1 + w .state .columns) (λ v k. counting v slot k 0) w
 
--- one listing less for each number of the list of column c of a slot; and so for every column
-unfoldable pub listDropped : World → ℕ → ℕ → ℕ → World
-listDropped w slot c zero = w
-listDropped w slot c (suc i) =
-    let v = listDropped w slot c i in inBooks v (unlistedOne (v .books) (numberAt w slot c i))
-
-unfoldable pub listsDropped : World → ℕ → ℕ → World
-listsDropped w slot zero = w
-listsDropped w slot (suc c) = let v = listsDropped w slot c in listDropped v slot c (listLength v slot c)
+-- one listing less for each number of the list of column c of a slot, as often as it stands there
+unfoldable pub listDropped : World → ℕ → ℕ → World
+listDropped w slot c =
+    inBooks w
+    (overList unlistedOne (w .books) (read (listPlace (w .state) slot c) (4 * listLength w slot c) (w .slots)) (listLength w slot c))
 
 -- next_completed_batch: the front batch dropped; answers its row count, and 0 on an empty queue
 pub record Dropped : Type 0 where
@@ -114,12 +117,9 @@ pub record Dropped : Type 0 where
   pub rows : ℕ
   pub world : World
 
-abbrev pub frontSlot : World → ℕ
-frontSlot w = queuedSlot (w .state) 0
-
 unfoldable pub dropped : World → World
 dropped w =
-    let v = uncounted (listsDropped w (frontSlot w) (w .state .columns)) (frontSlot w) (1 + w .state .columns) in
+    let v = uncounted (each (w .state .columns) (λ v c. listDropped v (frontSlot w) c) w) (frontSlot w) in
     inState v (withCounts (w .state) (w .state .place) (w .state .queued - 1) (w .state .buffered .0))
 
 unfoldable pub dropCall : World → Dropped
@@ -151,16 +151,20 @@ letGoCall w i = elim (eqb (tested w) 0) [
 
 -- ---- reads
 
--- 01: "a value is in its row or in a buffer: start in the lent slots and length, or buffer number, offset in that buffer and length"
-abbrev pub viewPlace : World → ℕ → ℕ → ℕ → View → Place
-viewPlace w slot c at v = cond (isInline v) (Place.InRow (at + 4) (record { 0 = v .length }))
-    (Place.InBuffer (record { 0 = numberAt w slot c (v .index) }) (v .offset) (record { 0 = v .length }))
+-- 01: "a value is in its row or in a buffer: start in the lent slots and length, or buffer number, offset in that buffer and length"; an
+-- inline view's bytes begin 4 behind its start (DECISIONS 12); a long view outside its list, which no history leaves, is not there
+unfoldable pub viewAnswer : World → ℕ → ℕ → ℕ → View → RowAnswer
+viewAnswer w slot c at v =
+    cond (isInline v) (RowAnswer.Value (Place.InRow (at + 4) (record { 0 = v .length })))
+    (cond (ltb (v .index) (listLength w slot c))
+    (RowAnswer.Value (Place.InBuffer (record { 0 = listedAt w slot c (v .index) }) (v .offset) (record { 0 = v .length })))
+    (RowAnswer.Refused 13))
 
-unfoldable pub placeOf : World → ℕ → ℕ → ℕ → Place
-placeOf w slot c i =
+unfoldable pub valueAnswer : World → ℕ → ℕ → ℕ → RowAnswer
+valueAnswer w slot c i =
     cond (isViews (w .state) c)
-    (viewPlace w slot c (cellPlace (w .state) slot c i) (viewOf (w .slots) (cellPlace (w .state) slot c i)))
-    (Place.InRow (cellPlace (w .state) slot c i) (record { 0 = widthOf (w .state) c }))
+    (viewAnswer w slot c (cellPlace (w .state) slot c i) (viewOf (w .slots) (cellPlace (w .state) slot c i)))
+    (RowAnswer.Value (Place.InRow (cellPlace (w .state) slot c i) (record { 0 = widthOf (w .state) c })))
 
 -- there is a front batch with row i and column c
 unfoldable pub isRow : World → ℕ → ℕ → Bool
@@ -173,7 +177,7 @@ readRow w c i =
     cond (eqb (tested w) 0)
     (cond (isRow w c i)
     (cond (eqb (bitsFrom (w .slots) (bitmapPlace (w .state) (frontSlot w) c) 0 i) 0) RowAnswer.Null
-    (RowAnswer.Value (placeOf w (frontSlot w) c i)))
+    (valueAnswer w (frontSlot w) c i))
     (RowAnswer.Refused 13))
     (RowAnswer.Refused (tested w))
 
@@ -182,6 +186,16 @@ abbrev pub rowRefusal : RowAnswer → ℕ
 rowRefusal RowAnswer.Null = 0
 rowRefusal (RowAnswer.Value p) = 0
 rowRefusal (RowAnswer.Refused number) = number
+
+-- and its value: what an answer means in the world that it was read in. A refusal has none
+abbrev pub placeBytes : World → Place → List ℕ
+placeBytes w (Place.InRow start n) = read start (n .0) (w .slots)
+placeBytes w (Place.InBuffer k offset n) = read offset (n .0) (filledBytes (w .books) (w .pool) (k .0))
+
+abbrev pub readAs : World → RowAnswer → Option Cell
+readAs w RowAnswer.Null = some null
+readAs w (RowAnswer.Value p) = some (value (placeBytes w p))
+readAs w (RowAnswer.Refused number) = none
 
 -- the read of a buffer, and the number beside it
 unfoldable pub bufferNumberCall : World → ℕ → ℕ
@@ -192,10 +206,7 @@ bufferCall w i = cond (eqb (tested w) 0) (partOf (w .books) (w .pool) i) []
 
 -- ---- the calls on the state alone, which refuse nothing
 
--- set_biggest_coalesce_batch_size, biggest_coalesce_batch_size
-unfoldable pub limited : BatchCoalescer → Limit → BatchCoalescer
-limited s limit = withLimit s limit
-
+-- set_biggest_coalesce_batch_size is `withLimit`; biggest_coalesce_batch_size
 unfoldable pub limitOf : BatchCoalescer → Limit
 limitOf s = s .limit
 

@@ -1,17 +1,16 @@
 -- The checks of a pushed batch, 2 to 7, in their order, with the first column and row at fault.
 use Prim.Native.Nat.{ℕ, _+_, _*_, _/_}
 use mathlib.Core.Bool.{Bool, true, false, _&&_, not, cond}
-use mathlib.Core.List.{List}
 use mathlib.Core.Option.{Option, none, some}
 use lib.ListN.{length}
-use lib.Dec.{ltb, leb, eqb}
+use lib.Dec.{leb, eqb}
 use Rattle.search.specs.First.{first}
 use Rattle.search.specs.Every.{every}
 use Rattle.views.specs.View.{isValid}
 use Rattle.pool.specs.Register.{isHeld}
 use Rattle.state.specs.World.{World, columnOf}
-use Rattle.state.specs.Layout.{valuesBytes, widthOf, isViews}
-use Rattle.rules.specs.Batch.{Batch, ColumnRecord, recordOf, hasBitmap, listedNumber, listedBytes, rowView}
+use Rattle.state.specs.Layout.{widthOf, isViews}
+use Rattle.rules.specs.Batch.{Batch, recordOf, hasBitmap, listedNumber, listedBytes, rowView}
 
 -- 4: "a record of the wrong kind or against its rules": its kind is the column's; "two words that are zero"; "No validity:
 -- first bit 0. List count 0: list start 0. Non-view kinds have list count 0."

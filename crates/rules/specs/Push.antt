@@ -1,30 +1,28 @@
 -- Push, step by step: 01's four steps, queueing whole, finishing; and what a push gives.
-use Prim.Native.Nat.{ℕ, zero, suc, _+_, _*_, _-_}
+use Prim.Native.Nat.{ℕ, zero, suc, _+_, _-_}
 use mathlib.Core.Bool.{Bool, true, false, cond}
-use mathlib.Core.List.{List}
 use mathlib.Core.Option.{Option, none, some}
 use lib.Dec.{ltb, leb, eqb}
 use Rattle.search.specs.Every.{every}
 use Rattle.state.specs.declared.Limit.{Limit}
 use Rattle.state.specs.World.{World}
-use Rattle.state.specs.Layout.{isViews}
+use Rattle.state.specs.Layout.{isViews, listLength}
 use Rattle.rules.specs.Batch.{Batch, recordOf}
 use Rattle.rules.specs.Checks.{Fault, batchFault}
-use Rattle.rules.specs.Ranges.{fitsSetUp, stateInRange}
-use Rattle.rules.specs.Steps.{Res, ok, refuse, bind, forEach, buffering, queueing}
+use Rattle.rules.specs.Ranges.{tested}
+use Rattle.rules.specs.Steps.{Res, ok, refuse, bind, each, buffering, queueing}
 use Rattle.rules.specs.Views.{filling, closed, bitsCopied, valuesCopied, listAttached, partCopied}
 
 -- the open block of each column of views joins its list. 01: "each column's open block joins its list and the slot is queued"
-unfoldable pub allClosed : World → ℕ → World
-allClosed w zero = w
-allClosed w (suc c) = let v = allClosed w c in cond (isViews (v .state) c) (closed v c) v
+unfoldable pub allClosed : World → World
+allClosed w = each (w .state .columns) (λ v c. cond (isViews (v .state) c) (closed v c) v) w
 
 -- 01: "Finishing with 0 buffered does nothing. Otherwise each column's open block joins its list and the slot is queued.";
 -- 9: "finishing 1 or more rows .. with Q queued"
 unfoldable pub finished : World → Res
 finished w =
     cond (eqb (w .state .buffered .0) 0) (ok w)
-    (cond (ltb (w .state .queued) (w .state .queue)) (ok (queueing (allClosed w (w .state .columns)) (w .state .buffered .0)))
+    (cond (ltb (w .state .queued) (w .state .queue)) (ok (queueing (allClosed w) (w .state .buffered .0)))
     (refuse 9))
 
 -- column c of the whole batch in the slot being filled. 01: "Queued whole: views unchanged, list listed as given, no block opened
@@ -33,22 +31,21 @@ unfoldable pub columnWhole : World → Batch → ℕ → World
 columnWhole w b c =
     listAttached (valuesCopied (bitsCopied w b c (filling w) 0 0 (b .rows)) b c (filling w) 0 0 (b .rows)) b c
 
-unfoldable pub columnsWhole : World → Batch → ℕ → World
-columnsWhole w b zero = w
-columnsWhole w b (suc c) = columnWhole (columnsWhole w b c) b c
+unfoldable pub columnsWhole : World → Batch → World
+columnsWhole w b = each (w .state .columns) (λ v c. columnWhole v b c) w
 
 -- 01: "Queueing whole tests 9, then 10 by columns."
 unfoldable pub queuedWhole : World → Batch → Res
 queuedWhole w b =
     cond (ltb (w .state .queued) (w .state .queue))
-    (cond (every (λ c. leb (recordOf b c .count) (w .state .lists)) (w .state .columns))
-    (ok (queueing (columnsWhole w b (w .state .columns)) (b .rows)))
+    (cond (every (λ c. leb (listLength w (filling w) c + recordOf b c .count) (w .state .lists)) (w .state .columns))
+    (ok (queueing (columnsWhole w b) (b .rows)))
     (refuse 10))
     (refuse 9)
 
 -- n rows from row `from` on, copied and buffered
-unfoldable pub taken : World → World → Batch → ℕ → ℕ → Res
-taken w₀ w b from n = bind (partCopied w₀ w b from n) (λ v. ok (buffering v (v .state .buffered .0 + n)))
+unfoldable pub partTaken : World → World → Batch → ℕ → ℕ → Res
+partTaken w₀ w b from n = bind (partCopied w₀ w b from n) (λ v. ok (buffering v (v .state .buffered .0 + n)))
 
 -- the rows that still fit the slot. 01: "T - buffered"
 abbrev pub space : World → ℕ
@@ -60,26 +57,22 @@ unfoldable pub ifFull : World → Res
 ifFull w = cond (eqb (w .state .buffered .0) (w .state .target .0)) (finished w) (ok w)
 
 unfoldable pub coalesced : ℕ → World → World → Batch → ℕ → Res
-coalesced zero w₀ w b from = bind (taken w₀ w b from (b .rows - from)) ifFull
+coalesced zero w₀ w b from = bind (partTaken w₀ w b from (b .rows - from)) ifFull
 coalesced (suc turns) w₀ w b from =
     elim (ltb (space w) (b .rows - from)) [
-      | true ↦ bind (bind (taken w₀ w b from (space w)) finished) (λ v. coalesced turns w₀ v b (from + space w))
-      | false ↦ bind (taken w₀ w b from (b .rows - from)) ifFull
+      | true ↦ bind (bind (partTaken w₀ w b from (space w)) finished) (λ v. coalesced turns w₀ v b (from + space w))
+      | false ↦ bind (partTaken w₀ w b from (b .rows - from)) ifFull
     ]
 
--- step 2: "Limit set and rows > limit: with 0 buffered, queue the batch whole; with buffered > limit, finish the buffered rows, then
+-- step 2: "Limit set and rows > limit (001): with 0 buffered, queue the batch whole; with buffered > limit, finish the buffered rows, then
 -- queue it whole; else go on."
-abbrev pub isLarge : Limit → ℕ → Bool
-isLarge Limit.Unset rows = false
-isLarge (Limit.Rows limit) rows = ltb (limit .0) rows
-
 abbrev pub overLimit : Limit → ℕ → Bool
 overLimit Limit.Unset n = false
 overLimit (Limit.Rows limit) n = ltb (limit .0) n
 
 unfoldable pub stepped : World → Batch → Res
 stepped w b =
-    elim (isLarge (w .state .limit) (b .rows)) [
+    elim (overLimit (w .state .limit) (b .rows)) [
       | true ↦ elim (eqb (w .state .buffered .0) 0) [
         | true ↦ queuedWhole w b
         | false ↦ elim (overLimit (w .state .limit) (w .state .buffered .0)) [
@@ -98,13 +91,7 @@ orFault (some f) r = refuse (f .number)
 
 unfoldable pub pushed : World → Batch → Res
 pushed w b =
-    elim (fitsSetUp w) [
-      | true ↦ elim (stateInRange w) [
-        | true ↦ elim (eqb (b .rows) 0) [
-          | true ↦ ok w
-          | false ↦ let r = stepped w b in orFault (batchFault w b) r
-        ]
-        | false ↦ refuse 14
-      ]
-      | false ↦ refuse 1
+    elim (eqb (tested w) 0) [
+      | true ↦ elim (eqb (b .rows) 0) [ true ↦ ok w | false ↦ let r = stepped w b in orFault (batchFault w b) r ]
+      | false ↦ refuse (tested w)
     ]

@@ -1,13 +1,13 @@
 -- Set-up and its bounds; the tests 1 and 14 that every later call begins with.
-use Prim.Native.Nat.{ℕ, _+_, _*_, _-_}
+use Prim.Native.Nat.{ℕ, _+_, _*_}
 use mathlib.Core.Bool.{Bool, true, false, _&&_, cond}
-use mathlib.Core.List.{List}
 use lib.ListN.{length}
 use lib.Dec.{ltb, leb, eqb}
 use Rattle.search.specs.Every.{every}
 use Rattle.words.specs.Word.{word32}
 use Rattle.kinds.specs.declared.Width.{Width}
 use Rattle.kinds.specs.Kind.{widthAt}
+use Rattle.books.specs.Entry.{usedOf}
 use Rattle.pool.specs.Read.{inRange}
 use Rattle.state.specs.declared.BatchCoalescer.{BatchCoalescer}
 use Rattle.state.specs.declared.OpenBlock.{OpenBlock}
@@ -39,18 +39,21 @@ fitsSetUp w =
     && (eqb (length (w .slots)) (slotsLength (w .state))
     && (eqb (length (w .pool)) (w .state .pool .0) && eqb (length (w .books)) (booksLength (w .state))))
 
--- 14, column by column: "a view column's kept block size below 4,096 or over 1,048,576", and an open block's number not below N
-abbrev pub blockInRange : ℕ → OpenBlock → Bool
-blockInRange n (OpenBlock.Number k) = ltb (k .0) n
-blockInRange n OpenBlock.Closed = true
+-- 14, column by column: "a view column's kept block size below 4,096 or over 1,048,576"; an open block whose number is not in use, or
+-- that its list has no place for (DECISIONS 3 and 11)
+abbrev pub blockInRange : ℕ → ℕ → ℕ → OpenBlock → Bool
+blockInRange used list room (OpenBlock.Number k) = ltb (k .0) used && ltb list room
+blockInRange used list room OpenBlock.Closed = true
 
-unfoldable pub columnInRange : BatchCoalescer → ℕ → Bool
-columnInRange s c =
-    cond (isViews s c)
-    (between 4096 (columnOf s c .source .current .0) 1048576 && blockInRange (s .numbers) (columnOf s c .block))
+unfoldable pub columnInRange : World → ℕ → Bool
+columnInRange w c =
+    cond (isViews (w .state) c)
+    (between 4096 (columnOf (w .state) c .source .current .0) 1048576
+    && blockInRange (usedOf (w .books)) (listLength w (w .state .place) c) (w .state .lists) (columnOf (w .state) c .block))
     true
 
--- 14, slot by slot: "its rows over R", "a list over B", "a listed number not below N"
+-- 14, slot by slot, queued or not: "its rows over R", "a list over B", "a listed number not below N"; a column that is not of views has
+-- no list
 unfoldable pub listInRange : World → ℕ → ℕ → Bool
 listInRange w slot c =
     leb (listLength w slot c) (cond (isViews (w .state) c) (w .state .lists) 0)
@@ -68,4 +71,9 @@ stateInRange w =
     && (leb (w .state .queued) (w .state .queue)
     && (leb (w .state .place) (w .state .queue)
     && (inRange (w .books) (w .state .numbers) (w .state .pool .0)
-    && (every (columnInRange (w .state)) (w .state .columns) && every (slotInRange w) (w .state .queue + 1)))))
+    && (every (columnInRange w) (w .state .columns) && every (slotInRange w) (w .state .queue + 1)))))
+
+-- the tests that every call after set-up begins with. 01: "Every call after set-up tests 1, then 14". The number of the refusal, and 0 where
+-- there is none
+unfoldable pub tested : World → ℕ
+tested w = cond (fitsSetUp w) (cond (stateInRange w) 0 14) 1

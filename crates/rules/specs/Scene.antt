@@ -9,16 +9,15 @@ use Rattle.words.specs.Run.{put}
 use Rattle.books.specs.Entry.{usedOf, entryOf}
 use Rattle.listings.specs.Listing.{taken}
 use Rattle.room.specs.Room.{entryAt}
-use Rattle.state.specs.declared.BatchCoalescer.{BatchCoalescer}
 use Rattle.state.specs.declared.Limit.{Limit}
 use Rattle.state.specs.declared.OpenBlock.{OpenBlock}
 use Rattle.state.specs.World.{World, columnOf}
 use Rattle.state.specs.Layout.{slotsLength, booksLength, listLength}
 use Rattle.state.specs.Rows.{Cell, null, value, Row, upTo}
 use Rattle.rules.specs.Batch.{Batch}
-use Rattle.rules.specs.Steps.{inState, inBooks, buffering, withColumn}
+use Rattle.rules.specs.Steps.{inState, inBooks, buffering, withLimit, withColumn}
 use Rattle.rules.specs.Views.{hasBlock, blockNumber}
-use Rattle.rules.specs.Calls.{Answered, newState, setUp, limited, pushCall}
+use Rattle.rules.specs.Calls.{Answered, Wanted, newState, setUpCall, pushCall}
 
 -- a word as its four bytes
 unfoldable pub wordBytes : ℕ → List ℕ
@@ -29,16 +28,9 @@ wordsBytes [] = []
 wordsBytes (x ∷ xs) = wordBytes x ++ wordsBytes xs
 
 -- a fresh court: memories of zeros of the set-up lengths, set up
-unfoldable pub fresh : BatchCoalescer → World
-fresh s =
-    setUp s
-    (record {
-      state = s;
-      slots = replicate (slotsLength s) 0;
-      pool = replicate (s .pool .0) 0;
-      books = replicate (booksLength s) 0;
-    })
-    .world
+unfoldable pub fresh : Wanted → World
+fresh a =
+    setUpCall a (replicate (slotsLength (newState a)) 0) (replicate (a .pool) 0) (replicate (booksLength (newState a)) 0) .world
 
 -- rows numbered from k on, in one column of UInt8 with no bitmap
 unfoldable pub numbers : ℕ → ℕ → List ℕ
@@ -56,7 +48,8 @@ limitFor (some n) = Limit.Rows (record { 0 = n })
 -- a court with target T and a limit, after pushes of so many rows each, numbered through
 unfoldable pub court : ℕ → Option ℕ → World
 court target limit =
-    let w = fresh (newState target 8 4 (5 ∷ []) 1 1 0) in inState w (limited (w .state) (limitFor limit))
+    let w = fresh (record { target = target; rows = 8; queue = 4; kinds = 5 ∷ []; lists = 1; numbers = 1; pool = 0 }) in
+    inState w (withLimit (w .state) (limitFor limit))
 
 unfoldable pub pushes : World → ℕ → List ℕ → World
 pushes w k [] = w
@@ -79,7 +72,7 @@ bytesOfRows (r ∷ rs) = bytesOfRow r ++ bytesOfRows rs
 
 -- a court of one Utf8View column, T 8, with the pool and the numbers given
 unfoldable pub viewCourt : ℕ → World
-viewCourt pool = fresh (newState 8 8 2 (18 ∷ []) 3 4 pool)
+viewCourt pool = fresh (record { target = 8; rows = 8; queue = 2; kinds = 18 ∷ []; lists = 3; numbers = 4; pool = pool })
 
 -- the sample bytes, which tell places apart
 unfoldable pub sample : ℕ → ℕ
@@ -120,8 +113,8 @@ viewed number lengths =
       body = wordBytes number ++ wordsBytes (viewWords 0 lengths);
     }
 
--- what a push of views leaves: its answer, the length of the list, whether a block is open and its number; then start, capacity and
--- length of each buffer in use
+-- what a push of views leaves: its answer, the kept block size, the length of slot 0's list, whether a block is open and its number; then
+-- start, capacity and length of each buffer in use
 abbrev pub flag : Bool → ℕ
 flag true = 1
 flag false = 0
@@ -134,14 +127,15 @@ figures books (suc i) =
 unfoldable pub left : Answered → List ℕ
 left a =
     a .number
+    ∷ columnOf (a .world .state) 0 .source .current .0
     ∷ listLength (a .world) 0 0
     ∷ flag (hasBlock (columnOf (a .world .state) 0 .block))
     ∷ blockNumber (columnOf (a .world .state) 0 .block)
     ∷ figures (a .world .books) (usedOf (a .world .books))
 
--- W10: a push of one view of 100 bytes whose list has one buffer of the capacity given
-unfoldable pub twice : ℕ → Answered
-twice capacity = pushCall (holding (viewCourt (capacity + 8192)) 0 0 capacity 100) (viewed 0 (100 ∷ []))
+-- W10: a push of one view of 100 bytes whose list has one buffer of the capacity given, in a pool of so many bytes
+unfoldable pub twice : ℕ → ℕ → Answered
+twice capacity pool = pushCall (holding (viewCourt pool) 0 0 capacity 100) (viewed 0 (100 ∷ []))
 
 -- W11: one row buffered and an open block of 8,192 filled to 8,092; a push of views of 60, 50 and 20 bytes, whose list has one buffer
 -- of capacity 300
@@ -149,11 +143,11 @@ unfoldable pub squeezed : Answered
 squeezed =
     pushCall (buffering (filledBlock (holding (viewCourt 24876) 1 8192 300 130) 0 0 8192 8092) 1) (viewed 1 (60 ∷ 50 ∷ 20 ∷ []))
 
--- the last block is empty: seven rows buffered of eight, an open block of 4,096 with a rest of 100; a push of two views of 60 bytes, of
--- which the first takes the slot's last row. Ideal is 120, of the whole push, so the block is walked and closed, and a new one opened
-unfoldable pub emptyBlock : Answered
-emptyBlock =
-    pushCall (buffering (filledBlock (holding (viewCourt 28972) 1 4096 300 120) 0 0 4096 3996) 7) (viewed 1 (60 ∷ 60 ∷ []))
+-- the last block is empty: seven rows buffered of eight, an open block with a rest of 20; a push of two views of 13 bytes, of which the
+-- first takes the slot's last row. Ideal is 26, of the whole push, so the block is walked and closed, and a new one opened. (The open
+-- block has 4,096 bytes, fewer than any that a history opens: a small pool is quicker to compute with.)
+unfoldable pub lastBlock : Answered
+lastBlock = pushCall (buffering (filledBlock (holding (viewCourt 28732) 1 4096 60 26) 0 0 4096 4076) 7) (viewed 1 (13 ∷ 13 ∷ []))
 
 -- an inline view of eight letters, and a long one of 20 bytes
 unfoldable pub mixed : ℕ → Batch

@@ -2,12 +2,9 @@
 use Prim.Native.Nat.{ℕ, zero, suc, _+_, _*_}
 use mathlib.Core.List.{List}
 use lib.ListN.{set}
-use Rattle.words.specs.Word.{word32, withWord32}
-use Rattle.words.specs.Run.{read, put}
-use Rattle.counts.specs.declared.RowCount.{RowCount}
+use Rattle.words.specs.Word.{withWord32}
 use Rattle.tallies.specs.Tally.{withTally}
 use Rattle.state.specs.declared.BatchCoalescer.{BatchCoalescer}
-use Rattle.state.specs.declared.Column.{Column}
 use Rattle.state.specs.declared.Limit.{Limit}
 use Rattle.state.specs.declared.OpenBlock.{OpenBlock}
 use Rattle.blocks.specs.declared.BufferSource.{BufferSource}
@@ -28,6 +25,11 @@ bind (refuse number) f = refuse number
 unfoldable pub forEach : ℕ → (World → ℕ → Res) → World → Res
 forEach zero f w = ok w
 forEach (suc n) f w = bind (forEach n f w) (λ v. f v n)
+
+-- and a change that nothing refuses
+unfoldable pub each : ℕ → (World → ℕ → World) → World → World
+each zero f w = w
+each (suc n) f w = f (each n f w) n
 
 -- the state with another limit; with other counts; with another column c
 abbrev pub withLimit : BatchCoalescer → Limit → BatchCoalescer

@@ -1,26 +1,26 @@
 -- A part of a pushed column copied into the slot being filled: values, validity, and the three ways of views.
 use Prim.Native.Nat.{ℕ, zero, suc, _+_, _*_, _-_}
-use mathlib.Core.Bool.{Bool, true, false, _&&_, cond}
-use mathlib.Core.List.{List}
+use mathlib.Core.Bool.{Bool, true, false, cond}
 use mathlib.Core.Option.{Option, none, some}
-use lib.Dec.{ltb, leb, eqb}
+use lib.ListN.{length}
+use lib.Dec.{ltb, leb}
 use Rattle.search.specs.First.{first}
 use Rattle.words.specs.Run.{read, put}
-use Rattle.bits.specs.Bits.{appended, ones}
+use Rattle.bits.specs.Bits.{appended}
 use Rattle.blocks.specs.Block.{asked}
 use Rattle.books.specs.Entry.{entryOf}
-use Rattle.listings.specs.Listing.{listedOne}
+use Rattle.listings.specs.Listing.{listedOne, overList}
+use Rattle.pool.specs.Carry.{carried}
 use Rattle.sound.specs.Change.{withLength}
 use Rattle.views.specs.declared.View.{View}
-use Rattle.views.specs.View.{isInline, withView, shows, longLength, raisedBy, repointed}
+use Rattle.views.specs.View.{isInline, withView, longLength, raisedBy, repointed}
 use Rattle.room.specs.declared.Chosen.{Chosen}
 use Rattle.room.specs.Room.{Outcome, opened}
-use Rattle.counts.specs.declared.BufferNumber.{BufferNumber}
 use Rattle.state.specs.declared.OpenBlock.{OpenBlock}
 use Rattle.state.specs.World.{World, columnOf}
-use Rattle.state.specs.Layout.{widthOf, isViews, bitmapPlace, bitmapBytes, cellPlace, listLength}
-use Rattle.rules.specs.Batch.{Batch, recordOf, hasBitmap, rowBit, listedNumber, listedBytes, valuePlace, rowView, sumTo, ideal, Way, copied, attached, compacted, way}
-use Rattle.rules.specs.Steps.{Res, ok, refuse, bind, forEach, withColumn, inState, inSlots, inBooks, counting, listing}
+use Rattle.state.specs.Layout.{widthOf, isViews, bitmapPlace, bitmapBytes, listPlace, cellPlace, listLength}
+use Rattle.rules.specs.Batch.{Batch, recordOf, rowBit, listedNumber, listOf, valuePlace, rowView, sumTo, ideal, Way, copied, attached, compacted, way}
+use Rattle.rules.specs.Steps.{Res, ok, refuse, bind, forEach, each, withColumn, inState, inSlots, inBooks, counting, listing}
 
 -- the slot being filled
 abbrev pub filling : World → ℕ
@@ -29,7 +29,7 @@ filling w = w .state .place
 -- ---- validity and values
 
 -- n rows of the batch from row `from` on, their bits behind the `at` rows of a slot. 01: "spare bits of the last bitmap byte are
--- zero"; "ones where there is none"
+-- zero"; ones where there is no bitmap (DECISIONS 9)
 unfoldable pub bitsCopied : World → Batch → ℕ → ℕ → ℕ → ℕ → ℕ → World
 bitsCopied w b c slot at from n =
     inSlots w
@@ -66,7 +66,7 @@ openFilled w c = entryOf (w .books) (openNumber w c) .length .0
 unfoldable pub openRest : World → ℕ → ℕ
 openRest w c = entryOf (w .books) (openNumber w c) .capacity .0 - openFilled w c
 
--- the open block joins its list, if there is one. 01: "close the open block"
+-- the open block joins its list, if there is one. 01: "close the open block" (DECISIONS 7: nothing shrinks)
 unfoldable pub closed : World → ℕ → World
 closed w c =
     cond (isOpen w c)
@@ -74,7 +74,7 @@ closed w c =
     (withColumn (w .state) c (columnOf (w .state) c .source) OpenBlock.Closed))
     w
 
--- a block opened for a minimum. 01: "Opening a block tests 10, 11, 12"; 10 where the list and the block would pass B
+-- a block opened for a minimum. 01: "Opening a block tests 10, 11, 12"; 10 where the list and the block would pass B (DECISIONS 3)
 abbrev pub opening : World → ℕ → ℕ → Outcome → Res
 opening w c min o =
     byAnswer (o .answer)
@@ -90,29 +90,33 @@ unfoldable pub blockOpened : World → ℕ → ℕ → Res
 blockOpened w c min =
     cond (leb (listLength w (filling w) c + 1) (w .state .lists))
     (opening w c min
-    (opened (w .books) (w .state .numbers) (w .state .pool .0) (asked (columnOf (w .state) c .source) (record { 0 = min }) .size .0)))
+    (opened (w .books) (w .state .numbers) (length (w .pool)) (asked (columnOf (w .state) c .source) (record { 0 = min }) .size .0)))
     (refuse 10)
 
 -- ---- views into the open block
 
--- the view of row `from` at row `at` of the slot: an inline one as it is; a long one with its bytes copied into the open block at
--- its filled length, and with the block's index and that offset. 8: "a copied row would start past 4,294,967,295"
+-- where the bytes of a long view lie in the pool: in its list's buffer, from the offset on
+unfoldable pub sourcePlace : World → Batch → ℕ → View → ℕ
+sourcePlace w b c v = entryOf (w .books) (listedNumber b c (v .index)) .start + v .offset
+
+-- a long view v at row `at` of the slot, its bytes copied into the open block at its filled length, with the block's index and that
+-- offset. 01: "Copied bytes go into the open block at its filled length."; "Long views get the new index and offset."
+unfoldable pub longCompacted : World → Batch → ℕ → ℕ → View → World
+longCompacted w b c at v =
+    record {
+      state = w .state;
+      slots =
+          withView (w .slots) (cellPlace (w .state) (filling w) c at) (repointed (listLength w (filling w) c) (openFilled w c) v);
+      pool = carried (w .pool) (sourcePlace w b c v) (entryOf (w .books) (openNumber w c) .start + openFilled w c) (v .length);
+      books = withLength (w .books) (openNumber w c) (openFilled w c + v .length);
+    }
+
+-- the view of row `from` at row `at` of the slot: an inline one as it is. 8: "a copied row would start past 4,294,967,295"
 unfoldable pub viewCompacted : World → Batch → ℕ → ℕ → ℕ → Res
 viewCompacted w b c at from =
     cond (isInline (rowView w b c from))
     (ok (inSlots w (withView (w .slots) (cellPlace (w .state) (filling w) c at) (rowView w b c from))))
-    (cond (leb (openFilled w c) 4294967295)
-    (ok
-    (record {
-      state = w .state;
-      slots =
-          withView (w .slots) (cellPlace (w .state) (filling w) c at)
-          (repointed (listLength w (filling w) c) (openFilled w c) (rowView w b c from));
-      pool =
-          put (entryOf (w .books) (openNumber w c) .start + openFilled w c) (shows (rowView w b c from) (listedBytes w b c)) (w .pool);
-      books = withLength (w .books) (openNumber w c) (openFilled w c + rowView w b c from .length);
-    }))
-    (refuse 8))
+    (cond (leb (openFilled w c) 4294967295) (ok (longCompacted w b c at (rowView w b c from))) (refuse 8))
 
 -- n rows from `from` on, at row `at` of the slot on
 unfoldable pub viewsCompacted : World → Batch → ℕ → ℕ → ℕ → ℕ → Res
@@ -147,22 +151,26 @@ partCompacted w b c at from n =
 
 -- ---- views attached
 
--- the whole list behind what is there, each number listed once more
+-- the whole list behind what is there, each number listed once more, as often as it stands there
 unfoldable pub listAttached : World → Batch → ℕ → World
-listAttached w b c = go (recordOf b c .count)
-  where
-    go : ℕ → World
-    go zero = w
-    go (suc i) =
-        let v = go i in
-        listing (inBooks v (listedOne (v .books) (listedNumber b c i))) (filling v) c (listedNumber b c i)
+listAttached w b c =
+    counting
+    (record {
+      state = w .state;
+      slots = put (listPlace (w .state) (filling w) c + 4 * listLength w (filling w) c) (listOf b c) (w .slots);
+      pool = w .pool;
+      books = overList listedOne (w .books) (listOf b c) (recordOf b c .count);
+    })
+    (filling w)
+    (c + 1)
+    (listLength w (filling w) c + recordOf b c .count)
 
 -- n views from `from` on, with k added to the index of long ones
 unfoldable pub viewsRaised : World → Batch → ℕ → ℕ → ℕ → ℕ → ℕ → World
-viewsRaised w b c k at from zero = w
-viewsRaised w b c k at from (suc n) =
-    let v = viewsRaised w b c k at from n in
-    inSlots v (withView (v .slots) (cellPlace (v .state) (filling v) c (at + n)) (raisedBy k (rowView v b c (from + n))))
+viewsRaised w b c k at from n =
+    each n
+    (λ v i. inSlots v (withView (v .slots) (cellPlace (v .state) (filling v) c (at + i)) (raisedBy k (rowView v b c (from + i)))))
+    w
 
 -- 01: "Otherwise: close the open block, attach the whole list, add the earlier list length to the index of long views only.";
 -- "Attaching tests 10, the block it closes counted."
@@ -179,8 +187,8 @@ byWay w b c at from n copied = ok (valuesCopied w b c (filling w) at from n)
 byWay w b c at from n attached = partAttached w b c at from n
 byWay w b c at from n compacted = partCompacted w b c at from n
 
--- n rows of column c from row `from` on, behind those buffered. w₀ is the world at the push: "Ideal" and "actual" are of the whole
--- pushed column, decided once
+-- n rows of column c from row `from` on, behind those buffered. w₀ is the world at the push: 01's "over the whole pushed column" (DECISIONS
+-- 5: decided once, done per part)
 unfoldable pub columnCopied : World → World → Batch → ℕ → ℕ → ℕ → Res
 columnCopied w₀ w b c from n =
     byWay (bitsCopied w b c (filling w) (w .state .buffered .0) from n) b c (w .state .buffered .0) from n

@@ -1,7 +1,7 @@
 -- The worked examples of 01's "Both sides of each edge": one table, one computed test, and the rule at each entry.
 use Prim.Native.Nat.{ℕ, _<_}
-use mathlib.Core.Path.{_≡_}
-use mathlib.Core.Bool.{Bool, _&&_}
+use mathlib.Core.Path.{_≡_, refl}
+use mathlib.Core.Bool.{Bool, true, false, _&&_}
 use mathlib.Core.List.{List, [], _∷_, _++_, map}
 use mathlib.Core.Option.{Option, none, some}
 use lib.Dec.{T}
@@ -9,25 +9,26 @@ use lib.ListN.{length, getD, drop}
 use Rattle.search.specs.Cases.{and-left, and-right}
 use Rattle.search.specs.Table.{tested, at-entry, same, same→eq}
 use Rattle.blocks.specs.declared.BufferSource.{BufferSource}
-use Rattle.rules.specs.Batch.{recordOf, hasBitmap, listedNumber, listedBytes, valuePlace, rowView, rowBit, batchCell, batchRow, batchRows, sumTo, ideal, actual, wayOf, way}
+use Rattle.rules.specs.Batch.{recordOf, hasBitmap, listedNumber, listOf, listedBytes, valuePlace, rowView, rowBit, batchCell, batchRow, batchRows, sumTo, ideal, actual, wayOf, way}
 use Rattle.rules.specs.Checks.{keepsRules, inBody, bitmapNeed, liesInBody, allHeld, validRow, badRow, columnFault, batchFault}
-use Rattle.rules.specs.Ranges.{inBounds, fitsSetUp, columnInRange, listInRange, slotInRange, stateInRange}
-use Rattle.rules.specs.Steps.{forEach, counting, listing, queueing}
-use Rattle.rules.specs.Views.{bitsCopied, valuesCopied, openNumber, openFilled, openRest, closed, blockOpened, viewCompacted, viewsCompacted, longBefore, walked, partCompacted, listAttached, viewsRaised, partAttached, columnCopied, partCopied}
-use Rattle.rules.specs.Push.{allClosed, finished, columnWhole, columnsWhole, queuedWhole, taken, ifFull, coalesced, stepped, pushed}
-use Rattle.rules.specs.Calls.{Answered, tested as tested′rules, columnsFor, newState, setUp, pushCall, finishCall, uncounted, listDropped, listsDropped, dropped, dropCall, registerCall, letGoCall, placeOf, isRow, readRow, bufferNumberCall, bufferCall, limited, limitOf, bufferedCount, hasCompleted, isEmpty}
+use Rattle.rules.specs.Ranges.{inBounds, fitsSetUp, columnInRange, listInRange, slotInRange, stateInRange, tested as tested′rules}
+use Rattle.rules.specs.Steps.{forEach, each, counting, listing, queueing}
+use Rattle.rules.specs.Views.{bitsCopied, valuesCopied, openNumber, openFilled, openRest, closed, blockOpened, sourcePlace, longCompacted, viewCompacted, viewsCompacted, longBefore, walked, partCompacted, listAttached, viewsRaised, partAttached, columnCopied, partCopied}
+use Rattle.rules.specs.Push.{allClosed, finished, columnWhole, columnsWhole, queuedWhole, partTaken, ifFull, coalesced, stepped, pushed}
+use Rattle.rules.specs.Calls.{Answered, columnsFor, newState, setUpCall, pushCall, finishCall, uncounted, listDropped, dropped, dropCall, registerCall, letGoCall, viewAnswer, valueAnswer, isRow, readRow, bufferNumberCall, bufferCall, limitOf, bufferedCount, hasCompleted, isEmpty}
 use Rattle.state.specs.World.{columnOf}
 use Rattle.state.specs.Layout.{widthOf, isViews, valuesBytes, bitmapBytes, listBytes, columnsBytes, slotBytes, valuesPlace, bitmapPlace, listPlace, cellPlace, slotsLength, booksLength, rowsIn, listLength, nextSlot, slotBefore, queuedSlot}
-use Rattle.state.specs.Rows.{upTo, joined, numberAt, bufferAt, cellOf, slotCell, slotRow, slotRows, queuedBatches, queuedRows, bufferedRows}
+use Rattle.state.specs.Rows.{upTo, joined, listedAt, bufferAt, cellOf, slotCell, slotRow, slotRows, queuedBatches, queuedRows, bufferedRows, takenRows}
 use Rattle.blocks.specs.Block.{fresh, doubled, enough, doublings, grown, kept, asked, afterAsks}
 use Rattle.books.specs.Entry.{usedOf, entryOf, withEntry, isFree, isFreeAt, shareByte, occupies}
 use Rattle.books.specs.Search.{lowestFree, clearAt, lowestGap, pastEntry, swept}
-use Rattle.listings.specs.Listing.{settled, withUsed, freed, taken as taken′listings, freeUnused, oneMore, withListings, listedOne, unlistedOne, released, overList}
+use Rattle.listings.specs.Listing.{settled, withUsed, freed, taken, freeUnused, oneMore, withListings, listedOne, unlistedOne, released, overList}
 use Rattle.sound.specs.Sound.{filledBytes, countWith}
 use Rattle.sound.specs.Change.{orFree, withLength}
 use Rattle.room.specs.Room.{chosen, openedAs, opened, tried}
 use Rattle.pool.specs.Register.{registered, isHeld, letGo}
 use Rattle.pool.specs.Read.{isThere, readRefusal, partOf, fitsIn, inRange}
+use Rattle.pool.specs.Carry.{carried}
 use Rattle.tallies.specs.Tally.{tallyPlace, tallyOf, withTally}
 use Rattle.views.specs.View.{viewOf, withView, inlineBytes, zeroFrom, isPadded, inBuffer, isValid, shows, filled, longLength, repointed, raisedBy}
 use Rattle.bits.specs.Bits.{bitIn, bitAt, bitsFrom, ones, byteWith, withBit, appended, afterwards, valueOf, across, headBits}
@@ -36,7 +37,7 @@ use Rattle.words.specs.Word.{wordOf, word32, withWord32}
 use Rattle.words.specs.Run.{read, put}
 use Rattle.search.specs.First.{firstFrom}
 use Rattle.search.specs.Every.{every}
-use Rattle.rules.specs.Scene.{wordBytes, wordsBytes, fresh as fresh′scene, numbers, numbered, court, pushes, bytesOfCell, bytesOfRow, bytesOfRows, viewCourt, sample, holding, filledBlock, viewWords, viewed, figures, left, twice, squeezed, emptyBlock, mixed, behind}
+use Rattle.rules.specs.Scene.{wordBytes, wordsBytes, fresh as fresh′scene, numbers, numbered, court, pushes, bytesOfCell, bytesOfRow, bytesOfRows, viewCourt, sample, holding, filledBlock, viewWords, viewed, figures, left, twice, squeezed, lastBlock, mixed, behind}
 
 -- one row of the table
 pub data Case : Type 0 where
@@ -44,8 +45,8 @@ pub data Case : Type 0 where
   asks : List ℕ → List ℕ → Case
   -- target, limit, the rows of each push, numbered through from 0; the rows of each queued batch, and those buffered
   cuts : ℕ → Option ℕ → List ℕ → List (List ℕ) → List ℕ → Case
-  -- a push of views; what it leaves (its answer, the list's length, the open block, each buffer's start, capacity and length), and
-  -- the bytes that the buffered rows show
+  -- a push of views; what it leaves (its answer, the kept block size, the list's length, the open block, each buffer's start, capacity
+  -- and length), and the bytes that the buffered rows show
   views : Answered → List ℕ → List ℕ → Case
 
 -- the answers of a source to ask after ask
@@ -63,13 +64,13 @@ Meant (views a fs bs) = (left a ≡ fs) × (bytesOfRows (bufferedRows (a .world)
 
 -- the test of a row that is computed
 abbrev pub sameAll : List (List ℕ) → List (List ℕ) → Bool
-sameAll [] [] = Bool.true
-sameAll [] (y ∷ ys) = Bool.false
-sameAll (x ∷ xs) [] = Bool.false
+sameAll [] [] = true
+sameAll [] (y ∷ ys) = false
+sameAll (x ∷ xs) [] = false
 sameAll (x ∷ xs) (y ∷ ys) = same x y && sameAll xs ys
 
 sameAll→eq : (xs ys : List (List ℕ)) → T (sameAll xs ys) → xs ≡ ys
-sameAll→eq [] [] t = mathlib.Core.Path.refl
+sameAll→eq [] [] t = refl
 sameAll→eq [] (y ∷ ys) t = absurd t
 sameAll→eq (x ∷ xs) [] t = absurd t
 sameAll→eq (x ∷ xs) (y ∷ ys) t =
@@ -97,7 +98,8 @@ right→meant i (views a fs bs) u = search (same→eq, and-left, and-right)
 -- "W10 ideal 100: actual 200 attaches, 201 compacts."
 -- "W11 open block 8,192 filled to 8,092, its size last asked; ideal 130, actual 300, lengths 60, 50, 20: block ends at 8,152, the new one
 -- is 16,384 with 70 bytes. The 20 is not squeezed in first."
--- and two of "Tempting and wrong": "dropping the empty last block"; "raising the index of inline views, which hold text there"
+-- and of "Tempting and wrong": "dropping the empty last block"; "rolling rows back after a refusal but not the block size" (W10's pool,
+-- one byte short); "raising the index of inline views, which hold text there"
 abbrev pub table : List Case
 table =
     asks (1 ∷ []) (8_192 ∷ [])
@@ -111,17 +113,20 @@ table =
     ∷ cuts 8 (some 2) (2 ∷ 3 ∷ 3 ∷ []) ((0 ∷ 1 ∷ 2 ∷ 3 ∷ 4 ∷ []) ∷ (5 ∷ 6 ∷ 7 ∷ []) ∷ []) []
     ∷ cuts 4 (some 5) (6 ∷ []) ((0 ∷ 1 ∷ 2 ∷ 3 ∷ 4 ∷ 5 ∷ []) ∷ []) []
     ∷ cuts 4 (some 5) (5 ∷ []) ((0 ∷ 1 ∷ 2 ∷ 3 ∷ []) ∷ []) (4 ∷ [])
-    ∷ views (twice 200) (0 ∷ 1 ∷ 0 ∷ 0 ∷ 0 ∷ 200 ∷ 100 ∷ []) (upTo 100 sample)
-    ∷ views (twice 201) (0 ∷ 0 ∷ 1 ∷ 1 ∷ 0 ∷ 201 ∷ 100 ∷ 201 ∷ 8_192 ∷ 100 ∷ []) (upTo 100 sample)
-    ∷ views squeezed (0 ∷ 1 ∷ 1 ∷ 2 ∷ 0 ∷ 8_192 ∷ 8_152 ∷ 8_192 ∷ 300 ∷ 130 ∷ 8_492 ∷ 16_384 ∷ 70 ∷ []) (upTo 130 sample)
-    ∷ views emptyBlock
-    (0 ∷ 2 ∷ 1 ∷ 3 ∷ 0 ∷ 4_096 ∷ 4_056 ∷ 4_096 ∷ 300 ∷ 120 ∷ 4_396 ∷ 8_192 ∷ 0 ∷ 12_588 ∷ 16_384 ∷ 60 ∷ [])
-    (drop 60 (upTo 120 sample))
-    ∷ views behind (0 ∷ 2 ∷ 0 ∷ 0 ∷ 0 ∷ 40 ∷ 40 ∷ 40 ∷ 40 ∷ 40 ∷ [])
+    ∷ views (twice 200 8_392) (0 ∷ 4_096 ∷ 1 ∷ 0 ∷ 0 ∷ 0 ∷ 200 ∷ 100 ∷ []) (upTo 100 sample)
+    ∷ views (twice 201 8_393) (0 ∷ 8_192 ∷ 0 ∷ 1 ∷ 1 ∷ 0 ∷ 201 ∷ 100 ∷ 201 ∷ 8_192 ∷ 100 ∷ []) (upTo 100 sample)
+    ∷ views squeezed
+    (0 ∷ 16_384 ∷ 1 ∷ 1 ∷ 2 ∷ 0 ∷ 8_192 ∷ 8_152 ∷ 8_192 ∷ 300 ∷ 130 ∷ 8_492 ∷ 16_384 ∷ 70 ∷ [])
+    (upTo 130 sample)
+    ∷ views lastBlock
+    (0 ∷ 16_384 ∷ 2 ∷ 1 ∷ 3 ∷ 0 ∷ 4_096 ∷ 4_089 ∷ 4_096 ∷ 60 ∷ 26 ∷ 4_156 ∷ 8_192 ∷ 0 ∷ 12_348 ∷ 16_384 ∷ 13 ∷ [])
+    (drop 13 (upTo 26 sample))
+    ∷ views (twice 201 8_392) (12 ∷ 4_096 ∷ 0 ∷ 0 ∷ 0 ∷ 0 ∷ 201 ∷ 100 ∷ []) []
+    ∷ views behind (0 ∷ 4_096 ∷ 2 ∷ 0 ∷ 0 ∷ 0 ∷ 40 ∷ 40 ∷ 40 ∷ 40 ∷ 40 ∷ [])
     (upTo 20 sample ++ (97 ∷ 98 ∷ 99 ∷ 100 ∷ 101 ∷ 102 ∷ 103 ∷ 104 ∷ upTo 20 sample))
     ∷ []
 
 -- every row of the table holds of the definitions
 pub worked : (d : Case) (k : ℕ) → k < length table → Meant (getD table k d)
-unfolding right answers recordOf hasBitmap listedNumber listedBytes valuePlace rowView rowBit batchCell batchRow batchRows sumTo ideal actual wayOf way keepsRules inBody bitmapNeed liesInBody allHeld validRow badRow columnFault batchFault inBounds fitsSetUp columnInRange listInRange slotInRange stateInRange forEach counting listing queueing bitsCopied valuesCopied openNumber openFilled openRest closed blockOpened viewCompacted viewsCompacted longBefore walked partCompacted listAttached viewsRaised partAttached columnCopied partCopied allClosed finished columnWhole columnsWhole queuedWhole taken ifFull coalesced stepped pushed tested′rules columnsFor newState setUp pushCall finishCall uncounted listDropped listsDropped dropped dropCall registerCall letGoCall placeOf isRow readRow bufferNumberCall bufferCall limited limitOf bufferedCount hasCompleted isEmpty columnOf widthOf isViews valuesBytes bitmapBytes listBytes columnsBytes slotBytes valuesPlace bitmapPlace listPlace cellPlace slotsLength booksLength rowsIn listLength nextSlot slotBefore queuedSlot upTo joined numberAt bufferAt cellOf slotCell slotRow slotRows queuedBatches queuedRows bufferedRows doubled enough doublings grown kept asked afterAsks usedOf entryOf withEntry isFree isFreeAt shareByte occupies lowestFree clearAt lowestGap pastEntry swept settled withUsed freed taken′listings freeUnused oneMore withListings listedOne unlistedOne released overList filledBytes countWith orFree withLength chosen openedAs opened tried registered isHeld letGo isThere readRefusal partOf fitsIn inRange tallyPlace tallyOf withTally viewOf withView inlineBytes zeroFrom isPadded inBuffer isValid shows filled longLength repointed raisedBy bitIn bitAt bitsFrom ones byteWith withBit appended afterwards valueOf across headBits kindOf widthAt isView wordOf word32 withWord32 read put firstFrom every wordBytes wordsBytes fresh′scene numbers numbered court pushes bytesOfCell bytesOfRow bytesOfRows viewCourt sample holding filledBlock viewWords viewed figures left twice squeezed emptyBlock mixed behind
+unfolding right answers recordOf hasBitmap listedNumber listOf listedBytes valuePlace rowView rowBit batchCell batchRow batchRows sumTo ideal actual wayOf way keepsRules inBody bitmapNeed liesInBody allHeld validRow badRow columnFault batchFault inBounds fitsSetUp columnInRange listInRange slotInRange stateInRange tested′rules forEach each counting listing queueing bitsCopied valuesCopied openNumber openFilled openRest closed blockOpened sourcePlace longCompacted viewCompacted viewsCompacted longBefore walked partCompacted listAttached viewsRaised partAttached columnCopied partCopied allClosed finished columnWhole columnsWhole queuedWhole partTaken ifFull coalesced stepped pushed columnsFor newState setUpCall pushCall finishCall uncounted listDropped dropped dropCall registerCall letGoCall viewAnswer valueAnswer isRow readRow bufferNumberCall bufferCall limitOf bufferedCount hasCompleted isEmpty columnOf widthOf isViews valuesBytes bitmapBytes listBytes columnsBytes slotBytes valuesPlace bitmapPlace listPlace cellPlace slotsLength booksLength rowsIn listLength nextSlot slotBefore queuedSlot upTo joined listedAt bufferAt cellOf slotCell slotRow slotRows queuedBatches queuedRows bufferedRows takenRows doubled enough doublings grown kept asked afterAsks usedOf entryOf withEntry isFree isFreeAt shareByte occupies lowestFree clearAt lowestGap pastEntry swept settled withUsed freed taken freeUnused oneMore withListings listedOne unlistedOne released overList filledBytes countWith orFree withLength chosen openedAs opened tried registered isHeld letGo isThere readRefusal partOf fitsIn inRange carried tallyPlace tallyOf withTally viewOf withView inlineBytes zeroFrom isPadded inBuffer isValid shows filled longLength repointed raisedBy bitIn bitAt bitsFrom ones byteWith withBit appended afterwards valueOf across headBits kindOf widthAt isView wordOf word32 withWord32 read put firstFrom every wordBytes wordsBytes fresh′scene numbers numbered court pushes bytesOfCell bytesOfRow bytesOfRows viewCourt sample holding filledBlock viewWords viewed figures left twice squeezed lastBlock mixed behind
 worked d k h = right→meant k (getD table k d) (at-entry right table d tt k h)

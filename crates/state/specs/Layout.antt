@@ -1,7 +1,6 @@
 -- Where things lie in slots and books: docs/LAYOUT.md as formulas.
 use Prim.Native.Nat.{ℕ, zero, suc, _+_, _*_, _/_, _-_}
 use mathlib.Core.Bool.{Bool, cond}
-use mathlib.Core.List.{List}
 use lib.Dec.{leb}
 use Rattle.kinds.specs.declared.Width.{Width}
 use Rattle.kinds.specs.Kind.{widthAt, isView}
@@ -22,7 +21,7 @@ unfoldable pub isViews : BatchCoalescer → ℕ → Bool
 isViews s c = isView (columnOf s c .kind)
 
 -- the parts of a column in a slot. 01: "A slot holds R rows of each column, a validity bitmap and a list of up to B buffer
--- numbers per column."; a list only where the column is of views
+-- numbers per column." (DECISIONS, "Only view columns have room for a list")
 unfoldable pub valuesBytes : BatchCoalescer → ℕ → ℕ
 valuesBytes s c = s .rows .0 * widthOf s c
 
@@ -65,7 +64,7 @@ booksLength s = 4 + 20 * s .numbers + 4 * (1 + s .columns) * (s .queue + 1)
 abbrev pub tally : BatchCoalescer → ℕ → ℕ → Tally
 tally s slot k = record { numbers = s .numbers; columns = s .columns; slot = slot; word = k }
 
--- the rows of a slot, and the length of the list of a column of it, as the books have them
+-- the rows of a queued slot (DECISIONS 8: those of the slot being filled are `buffered`), and the length of the list of a column of it, as the books have them
 unfoldable pub rowsIn : World → ℕ → ℕ
 rowsIn w slot = tallyOf (w .books) (tally (w .state) slot 0)
 

@@ -1,7 +1,7 @@
 -- What a row is: null, or the bytes that it shows, in each column; the rows queued, the rows buffered, the rows of a batch.
 -- This is what the order of rows is about.
 use Prim.Native.Nat.{ℕ, zero, suc, _+_, _*_}
-use mathlib.Core.Bool.{Bool, true, false, cond}
+use mathlib.Core.Bool.{Bool, cond}
 use mathlib.Core.List.{List, [], _∷_, _++_}
 use lib.Dec.{ltb, eqb}
 use Rattle.words.specs.Word.{word32}
@@ -9,7 +9,6 @@ use Rattle.words.specs.Run.{read}
 use Rattle.bits.specs.Bits.{bitsFrom}
 use Rattle.views.specs.View.{viewOf, shows}
 use Rattle.sound.specs.Sound.{filledBytes}
-use Rattle.state.specs.declared.BatchCoalescer.{BatchCoalescer}
 use Rattle.state.specs.declared.OpenBlock.{OpenBlock}
 use Rattle.state.specs.World.{World, columnOf}
 use Rattle.state.specs.Layout.{widthOf, isViews, bitmapPlace, listPlace, cellPlace, rowsIn, listLength, queuedSlot}
@@ -33,20 +32,21 @@ unfoldable pub joined {ℓ} : {A : Type ℓ} → List (List A) → List A
 joined [] = []
 joined (x ∷ xs) = x ++ joined xs
 
--- the number of the buffer at index i of column c of a slot: of the list, or, behind it in the slot being filled, the open
--- block. 01: "index in the list"; buffered long views of the open block carry index = list length
-abbrev pub openNumber : OpenBlock → ℕ
-openNumber (OpenBlock.Number k) = k .0
-openNumber OpenBlock.Closed = 0
+-- the number at place i of the list of column c of a slot. 01: "index in the list"
+unfoldable pub listedAt : World → ℕ → ℕ → ℕ → ℕ
+listedAt w slot c i = word32 (w .slots) (listPlace (w .state) slot c + 4 * i)
 
-unfoldable pub numberAt : World → ℕ → ℕ → ℕ → ℕ
-numberAt w slot c i =
-    cond (ltb i (listLength w slot c)) (word32 (w .slots) (listPlace (w .state) slot c + 4 * i))
-    (openNumber (columnOf (w .state) c .block))
+-- the bytes of an open block, and no bytes where none is open
+abbrev pub openBytes : World → OpenBlock → List ℕ
+openBytes w (OpenBlock.Number k) = filledBytes (w .books) (w .pool) (k .0)
+openBytes w OpenBlock.Closed = []
 
--- the bytes of that buffer
+-- the bytes of the buffer at index i of column c of a slot: of the list; or, behind it in the slot being filled, of the open block
+-- (DECISIONS 7: "buffered long views carry index = list length meanwhile")
 unfoldable pub bufferAt : World → ℕ → ℕ → ℕ → List ℕ
-bufferAt w slot c i = filledBytes (w .books) (w .pool) (numberAt w slot c i)
+bufferAt w slot c i =
+    cond (ltb i (listLength w slot c)) (filledBytes (w .books) (w .pool) (listedAt w slot c i))
+    (cond (eqb slot (w .state .place)) (openBytes w (columnOf (w .state) c .block)) [])
 
 -- a cell: a bit says whether it is null; its bytes stand in their place, or its view there shows them. 01: "Validity is one
 -- bit a row, least significant bit first, 1 valid"
@@ -80,3 +80,11 @@ queuedRows w = joined (queuedBatches w)
 
 unfoldable pub bufferedRows : World → List Row
 bufferedRows w = slotRows w (w .state .place) (w .state .buffered .0)
+
+-- the front batch, the one that is queued longest, and its rows: what the next drop takes. 01: "A row taken is what it read as just before
+-- its batch was dropped."
+abbrev pub frontSlot : World → ℕ
+frontSlot w = queuedSlot (w .state) 0
+
+unfoldable pub takenRows : World → List Row
+takenRows w = slotRows w (frontSlot w) (rowsIn w (frontSlot w))
