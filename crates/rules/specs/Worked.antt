@@ -9,35 +9,35 @@ use lib.ListN.{length, getD, drop}
 use Rattle.search.specs.Cases.{and-left, and-right}
 use Rattle.search.specs.Table.{tested, at-entry, same, same→eq}
 use Rattle.blocks.specs.declared.BufferSource.{BufferSource}
-use Rattle.rules.specs.Batch.{recordOf, hasBitmap, listedNumber, listOf, listedBytes, valuePlace, rowView, rowBit, batchCell, batchRow, batchRows, sumTo, ideal, actual, wayOf, way}
+use Rattle.rules.specs.Batch.{recordOf, hasBitmap, listedNumber, listOf, listedBytes, valuePlace, rowView, rowBit, sumTo, ideal, actual, wayOf, way}
 use Rattle.rules.specs.Checks.{keepsRules, inBody, bitmapNeed, liesInBody, allHeld, validRow, badRow, columnFault, batchFault}
 use Rattle.rules.specs.Ranges.{inBounds, fitsSetUp, columnInRange, listInRange, slotInRange, stateInRange, tested as tested′rules}
 use Rattle.rules.specs.Steps.{forEach, each, counting, listing, queueing}
 use Rattle.rules.specs.Views.{bitsCopied, valuesCopied, openNumber, openFilled, openRest, closed, blockOpened, sourcePlace, longCompacted, viewCompacted, viewsCompacted, longBefore, walked, partCompacted, listAttached, viewsRaised, partAttached, columnCopied, partCopied}
 use Rattle.rules.specs.Push.{allClosed, finished, columnWhole, columnsWhole, queuedWhole, partTaken, ifFull, coalesced, stepped, pushed}
-use Rattle.rules.specs.Calls.{Answered, columnsFor, newState, setUpCall, pushCall, finishCall, uncounted, listDropped, dropped, dropCall, registerCall, letGoCall, viewAnswer, valueAnswer, isRow, readRow, bufferNumberCall, bufferCall, limitOf, bufferedCount, hasCompleted, isEmpty}
+use Rattle.rules.specs.Calls.{Answered, columnsFor, newState, setUpCall, pushCall}
 use Rattle.state.specs.World.{columnOf}
 use Rattle.state.specs.Layout.{widthOf, isViews, valuesBytes, bitmapBytes, listBytes, columnsBytes, slotBytes, valuesPlace, bitmapPlace, listPlace, cellPlace, slotsLength, booksLength, rowsIn, listLength, nextSlot, slotBefore, queuedSlot}
-use Rattle.state.specs.Rows.{upTo, joined, listedAt, bufferAt, cellOf, slotCell, slotRow, slotRows, queuedBatches, queuedRows, bufferedRows, takenRows}
-use Rattle.blocks.specs.Block.{fresh, doubled, enough, doublings, grown, kept, asked, afterAsks}
+use Rattle.state.specs.Rows.{upTo, listedAt, bufferAt, cellOf, slotCell, slotRow, slotRows, queuedBatches, bufferedRows}
+use Rattle.blocks.specs.Block.{fresh, doubled, enough, doublings, grown, kept, asked}
 use Rattle.books.specs.Entry.{usedOf, entryOf, withEntry, isFree, isFreeAt, shareByte, occupies}
-use Rattle.books.specs.Search.{lowestFree, clearAt, lowestGap, pastEntry, swept}
-use Rattle.listings.specs.Listing.{settled, withUsed, freed, taken, freeUnused, oneMore, withListings, listedOne, unlistedOne, released, overList}
-use Rattle.sound.specs.Sound.{filledBytes, countWith}
-use Rattle.sound.specs.Change.{orFree, withLength}
-use Rattle.room.specs.Room.{chosen, openedAs, opened, tried}
-use Rattle.pool.specs.Register.{registered, isHeld, letGo}
-use Rattle.pool.specs.Read.{isThere, readRefusal, partOf, fitsIn, inRange}
+use Rattle.books.specs.Search.{lowestFree, clearAt, lowestGap}
+use Rattle.listings.specs.Listing.{withUsed, taken, oneMore, withListings, listedOne, overList}
+use Rattle.sound.specs.Sound.{filledBytes}
+use Rattle.sound.specs.Change.{withLength}
+use Rattle.room.specs.Room.{chosen, openedAs, opened}
+use Rattle.pool.specs.Register.{isHeld}
+use Rattle.pool.specs.Read.{fitsIn, inRange}
 use Rattle.pool.specs.Carry.{carried}
 use Rattle.tallies.specs.Tally.{tallyPlace, tallyOf, withTally}
-use Rattle.views.specs.View.{viewOf, withView, inlineBytes, zeroFrom, isPadded, inBuffer, isValid, shows, filled, longLength, repointed, raisedBy}
-use Rattle.bits.specs.Bits.{bitIn, bitAt, bitsFrom, ones, byteWith, withBit, appended, afterwards, valueOf, across, headBits}
+use Rattle.views.specs.View.{viewOf, withView, inlineBytes, zeroFrom, isPadded, inBuffer, isValid, shows, longLength, repointed, raisedBy}
+use Rattle.bits.specs.Bits.{bitIn, bitAt, bitsFrom, byteWith, withBit, appended}
 use Rattle.kinds.specs.Kind.{kindOf, widthAt, isView}
 use Rattle.words.specs.Word.{wordOf, word32, withWord32}
 use Rattle.words.specs.Run.{read, put}
 use Rattle.search.specs.First.{firstFrom}
 use Rattle.search.specs.Every.{every}
-use Rattle.rules.specs.Scene.{wordBytes, wordsBytes, fresh as fresh′scene, numbers, numbered, court, pushes, bytesOfCell, bytesOfRow, bytesOfRows, viewCourt, sample, holding, filledBlock, viewWords, viewed, figures, left, twice, squeezed, lastBlock, mixed, behind}
+use Rattle.rules.specs.Scene.{wordBytes, wordsBytes, fresh as fresh′, numbers, numbered, court, pushes, bytesOfCell, bytesOfRow, bytesOfRows, viewCourt, sample, holding, filledBlock, viewWords, viewed, figures, left, twice, squeezed, lastBlock, mixed, behind}
 
 -- one row of the table
 pub data Case : Type 0 where
@@ -128,5 +128,5 @@ table =
 
 -- every row of the table holds of the definitions
 pub worked : (d : Case) (k : ℕ) → k < length table → Meant (getD table k d)
-unfolding right answers recordOf hasBitmap listedNumber listOf listedBytes valuePlace rowView rowBit batchCell batchRow batchRows sumTo ideal actual wayOf way keepsRules inBody bitmapNeed liesInBody allHeld validRow badRow columnFault batchFault inBounds fitsSetUp columnInRange listInRange slotInRange stateInRange tested′rules forEach each counting listing queueing bitsCopied valuesCopied openNumber openFilled openRest closed blockOpened sourcePlace longCompacted viewCompacted viewsCompacted longBefore walked partCompacted listAttached viewsRaised partAttached columnCopied partCopied allClosed finished columnWhole columnsWhole queuedWhole partTaken ifFull coalesced stepped pushed columnsFor newState setUpCall pushCall finishCall uncounted listDropped dropped dropCall registerCall letGoCall viewAnswer valueAnswer isRow readRow bufferNumberCall bufferCall limitOf bufferedCount hasCompleted isEmpty columnOf widthOf isViews valuesBytes bitmapBytes listBytes columnsBytes slotBytes valuesPlace bitmapPlace listPlace cellPlace slotsLength booksLength rowsIn listLength nextSlot slotBefore queuedSlot upTo joined listedAt bufferAt cellOf slotCell slotRow slotRows queuedBatches queuedRows bufferedRows takenRows doubled enough doublings grown kept asked afterAsks usedOf entryOf withEntry isFree isFreeAt shareByte occupies lowestFree clearAt lowestGap pastEntry swept settled withUsed freed taken freeUnused oneMore withListings listedOne unlistedOne released overList filledBytes countWith orFree withLength chosen openedAs opened tried registered isHeld letGo isThere readRefusal partOf fitsIn inRange carried tallyPlace tallyOf withTally viewOf withView inlineBytes zeroFrom isPadded inBuffer isValid shows filled longLength repointed raisedBy bitIn bitAt bitsFrom ones byteWith withBit appended afterwards valueOf across headBits kindOf widthAt isView wordOf word32 withWord32 read put firstFrom every wordBytes wordsBytes fresh′scene numbers numbered court pushes bytesOfCell bytesOfRow bytesOfRows viewCourt sample holding filledBlock viewWords viewed figures left twice squeezed lastBlock mixed behind
+unfolding right answers recordOf hasBitmap listedNumber listOf listedBytes valuePlace rowView rowBit sumTo ideal actual wayOf way keepsRules inBody bitmapNeed liesInBody allHeld validRow badRow columnFault batchFault inBounds fitsSetUp columnInRange listInRange slotInRange stateInRange tested′rules forEach each counting listing queueing bitsCopied valuesCopied openNumber openFilled openRest closed blockOpened sourcePlace longCompacted viewCompacted viewsCompacted longBefore walked partCompacted listAttached viewsRaised partAttached columnCopied partCopied allClosed finished columnWhole columnsWhole queuedWhole partTaken ifFull coalesced stepped pushed columnsFor newState setUpCall pushCall columnOf widthOf isViews valuesBytes bitmapBytes listBytes columnsBytes slotBytes valuesPlace bitmapPlace listPlace cellPlace slotsLength booksLength rowsIn listLength nextSlot slotBefore queuedSlot upTo listedAt bufferAt cellOf slotCell slotRow slotRows queuedBatches bufferedRows doubled enough doublings grown kept asked usedOf entryOf withEntry isFree isFreeAt shareByte occupies lowestFree clearAt lowestGap withUsed taken oneMore withListings listedOne overList filledBytes withLength chosen openedAs opened isHeld fitsIn inRange carried tallyPlace tallyOf withTally viewOf withView inlineBytes zeroFrom isPadded inBuffer isValid shows longLength repointed raisedBy bitIn bitAt bitsFrom byteWith withBit appended kindOf widthAt isView wordOf word32 withWord32 read put firstFrom every wordBytes wordsBytes fresh′ numbers numbered court pushes bytesOfCell bytesOfRow bytesOfRows viewCourt sample holding filledBlock viewWords viewed figures left twice squeezed lastBlock mixed behind
 worked d k h = right→meant k (getD table k d) (at-entry right table d tt k h)
