@@ -7,7 +7,7 @@ use mathlib.Core.Option.{Option, none, some}
 use lib.Dec.{T}
 use lib.ListN.{length, getD, drop}
 use Rattle.search.specs.Cases.{and-left, and-right}
-use Rattle.search.specs.Table.{tested, at-entry, same, same→eq}
+use Rattle.search.specs.Table.{at-entry, same, same→eq}
 use Rattle.blocks.specs.declared.BufferSource.{BufferSource}
 use Rattle.rules.specs.Batch.{recordOf, hasBitmap, listedNumber, listOf, listedBytes, valuePlace, rowView, rowBit, sumTo, ideal, actual, wayOf, way}
 use Rattle.rules.specs.Checks.{keepsRules, inBody, bitmapNeed, liesInBody, allHeld, validRow, badRow, columnFault, batchFault}
