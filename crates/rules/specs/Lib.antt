@@ -15,5 +15,3 @@ pub mod PushLaws
 pub mod RegisterLaws
 pub mod CallLaws
 pub mod SizeLaws
-pub mod Scene
-pub mod Worked

@@ -20,7 +20,7 @@ use Rattle.rules.specs.Steps.{inBooks}
 use Rattle.rules.specs.Ranges.{tested}
 use Rattle.rules.specs.Calls.{registerCall, letGoCall}
 use Rattle.rules.specs.Held.{Among, one-of, among-more, among-not}
-use Rattle.rules.specs.SizeLaws.{length-registered, length-letGo}
+use Rattle.rules.specs.SizeLaws.{length-registered, pool-registered, length-letGo}
 use Rattle.rules.specs.Stays.{Stays, stays-refl, beside-state, beside-stays}
 use Rattle.rules.specs.PartLaws.{chosen-among}
 use Rattle.rules.specs.TestLaws.{tested-number}
@@ -97,7 +97,9 @@ module _ (w : World) (bytes : List ℕ) (capacity : ℕ) where
       go (no h) = rw (register-tested h) (stays-refl w)
       go (yes h) =
           rw (register-steps h)
-          (beside-stays (beside-state w _ refl (length-registered (w .books) (w .pool) (w .state .numbers) bytes capacity)))
+          (beside-stays
+          (beside-state w _ refl (pool-registered (w .books) (w .pool) (w .state .numbers) bytes capacity)
+          (length-registered (w .books) (w .pool) (w .state .numbers) bytes capacity)))
 
 -- ---- let go
 
@@ -147,4 +149,4 @@ module _ (w : World) (i : ℕ) where
     where
       go : Dec (tested w ≡ 0) → Stays w (letGoCall w i .world)
       go (no h) = rw (let-go-tested h) (stays-refl w)
-      go (yes h) = rw (let-go-steps h) (beside-stays (beside-state w _ refl (length-letGo (w .books) i)))
+      go (yes h) = rw (let-go-steps h) (beside-stays (beside-state w _ refl refl (length-letGo (w .books) i)))

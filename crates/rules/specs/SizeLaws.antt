@@ -1,5 +1,5 @@
--- No change of the books changes their length.
-use Prim.Native.Nat.{ℕ, zero, suc, _+_, _*_}
+-- No change of the books changes their length, and registering none of the pool's.
+use Prim.Native.Nat.{ℕ, zero, suc, _+_, _*_, _-_, _≤_}
 use mathlib.Core.Path.{_≡_, refl, _∙_}
 use mathlib.Core.List.{List}
 use lib.ListN.{length}
@@ -15,6 +15,9 @@ use Rattle.listings.specs.ListingLaws.{length-withUsed}
 use Rattle.sound.specs.Change.{withLength}
 use Rattle.room.specs.declared.Chosen.{Chosen}
 use Rattle.room.specs.Room.{chosen, takenFor, openedAs, opened}
+use Rattle.words.specs.RunLaws.{length-put}
+use borrow.Author.Tests.{ltb-false}
+use Rattle.pool.specs.RegisterLaws.{bytes-room}
 use Rattle.pool.specs.Register.{Outcome, Gone, settledAt, registered, isHeld, letGo}
 
 module _ (s : List ℕ) (i : ℕ) where
@@ -80,3 +83,14 @@ unfolding registered
 length-registered s p n bytes capacity =
     by-cond (λ (o : Outcome). length (o .books) ≡ length s) (ltb capacity (length bytes)) (λ h. refl)
     (λ h. at-room s p bytes capacity (chosen s n (length p) capacity))
+
+-- registered bytes lie in the pool
+placed-pool : (s p : List ℕ) (n : ℕ) (bytes : List ℕ) (capacity : ℕ) (c : Chosen) → length bytes ≤ capacity → c ≡ chosen s n (length p) capacity → length (settledAt s p bytes capacity c .pool) ≡ length p
+placed-pool s p n bytes capacity (Chosen.Refused number) h e = refl
+placed-pool s p n bytes capacity (Chosen.At r) h e = length-put (r .start) bytes p (bytes-room s p n bytes capacity h e refl)
+
+pub pool-registered : (s p : List ℕ) (n : ℕ) (bytes : List ℕ) (capacity : ℕ) → length (registered s p n bytes capacity .pool) ≡ length p
+unfolding registered
+pool-registered s p n bytes capacity =
+    by-cond (λ (o : Outcome). length (o .pool) ≡ length p) (ltb capacity (length bytes)) (λ h. refl)
+    (λ h. placed-pool s p n bytes capacity (chosen s n (length p) capacity) (ltb-false capacity (length bytes) h) refl)

@@ -1,4 +1,4 @@
--- What calls leave as it is: what set-up fixed, the length of the books, and the ranges of the counts.
+-- What calls leave as it is: what set-up fixed, the lengths of pool and books, and the ranges of the counts.
 use Prim.Native.Nat.{ℕ, zero, suc, _≤_, _<_}
 use mathlib.Core.Path.{_≡_, refl, _∙_, ap}
 use mathlib.Core.List.{List, [], _∷_}
@@ -97,16 +97,17 @@ pub record Counted (s : BatchCoalescer) : Type 0 where
   pub queued : s .queued ≤ s .queue
   pub place : s .place ≤ s .queue
 
--- what a part of a push leaves as it was: the set-up, the counts, and the length of the books
+-- what a part of a push leaves as it was: the set-up, the counts, and the lengths of pool and books
 pub record Beside (w v : World) : Type 0 where
   pub set-up : SameSetUp (w .state) (v .state)
   pub place : v .state .place ≡ w .state .place
   pub queued : v .state .queued ≡ w .state .queued
   pub buffered : v .state .buffered ≡ w .state .buffered
+  pub pool : length (v .pool) ≡ length (w .pool)
   pub books : length (v .books) ≡ length (w .books)
 
 pub beside-refl : (w : World) → Beside w w
-beside-refl w = record { set-up = same-refl (w .state); place = refl; queued = refl; buffered = refl; books = refl }
+beside-refl w = record { set-up = same-refl (w .state); place = refl; queued = refl; buffered = refl; pool = refl; books = refl }
 
 pub beside-trans : {w v u : World} → Beside w v → Beside v u → Beside w u
 beside-trans a b =
@@ -115,6 +116,7 @@ beside-trans a b =
       place = b .place ∙ a .place;
       queued = b .queued ∙ a .queued;
       buffered = b .buffered ∙ a .buffered;
+      pool = b .pool ∙ a .pool;
       books = b .books ∙ a .books;
     }
 
@@ -124,20 +126,22 @@ unfolding each
 each-beside zero f w h = beside-refl w
 each-beside (suc n) f w h = beside-trans (each-beside n f w h) (h (each n f w) n)
 
--- a world of the same state, with books of the same length
-pub beside-state : (w v : World) → v .state ≡ w .state → length (v .books) ≡ length (w .books) → Beside w v
-beside-state w v e l =
+-- a world of the same state, with a pool and books of the same lengths
+pub beside-state : (w v : World) → v .state ≡ w .state → length (v .pool) ≡ length (w .pool) → length (v .books) ≡ length (w .books) → Beside w v
+beside-state w v e p l =
     record {
       set-up = rw e (same-refl (w .state));
       place = ap (λ s. s .place) e;
       queued = ap (λ s. s .queued) e;
       buffered = ap (λ s. s .buffered) e;
+      pool = p;
       books = l;
     }
 
 -- what a step leaves that queues: queued and place stay within Q
 pub record Kept (w v : World) : Type 0 where
   pub set-up : SameSetUp (w .state) (v .state)
+  pub pool : length (v .pool) ≡ length (w .pool)
   pub books : length (v .books) ≡ length (w .books)
   pub queued : w .state .queued ≤ w .state .queue → v .state .queued ≤ v .state .queue
   pub place : w .state .place ≤ w .state .queue → v .state .place ≤ v .state .queue
@@ -146,6 +150,7 @@ pub kept-trans : {w v u : World} → Kept w v → Kept v u → Kept w u
 kept-trans a b =
     record {
       set-up = same-trans (a .set-up) (b .set-up);
+      pool = b .pool ∙ a .pool;
       books = b .books ∙ a .books;
       queued = λ h. b .queued (a .queued h);
       place = λ h. b .place (a .place h);
@@ -155,6 +160,7 @@ pub beside-kept : {w v : World} → Beside w v → Kept w v
 beside-kept a =
     record {
       set-up = a .set-up;
+      pool = a .pool;
       books = a .books;
       queued = λ h. rw (a .queued, a .set-up .queue) h;
       place = λ h. rw (a .place, a .set-up .queue) h;
