@@ -166,7 +166,7 @@ uncounted-beside w slot = each-beside (1 + w .state .columns) _ w (λ v k. count
 
 pub list-dropped-beside : (w : World) (slot c : ℕ) → Beside w (listDropped w slot c)
 unfolding listDropped
-list-dropped-beside w slot c = beside-state w _ refl refl (length-overList unlistedOne length-unlistedOne (w .books) _ _)
+list-dropped-beside w slot c = beside-state w _ refl refl refl (length-overList unlistedOne length-unlistedOne (w .books) _ _)
 
 pub lists-dropped-beside : (w : World) (slot n : ℕ) → Beside w (each n (λ v c. listDropped v slot c) w)
 lists-dropped-beside w slot n = each-beside n _ w (λ v c. list-dropped-beside v slot c)
@@ -178,6 +178,7 @@ dropped-stays w =
       kept =
           record {
             set-up = same-counts (w .state) (w .state .place) (w .state .queued - 1) (w .state .buffered .0);
+            slots = lists .slots;
             pool = lists .pool;
             books = lists .books;
             queued = λ h. omega arith;

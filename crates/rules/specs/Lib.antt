@@ -15,3 +15,5 @@ pub mod PushLaws
 pub mod RegisterLaws
 pub mod CallLaws
 pub mod SizeLaws
+pub mod Scene
+pub mod Worked

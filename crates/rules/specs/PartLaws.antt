@@ -14,6 +14,9 @@ use Rattle.books.specs.Search.{lowestFree, lowestGap}
 use Rattle.listings.specs.Listing.{listedOne}
 use Rattle.room.specs.declared.Chosen.{Chosen}
 use Rattle.room.specs.Room.{orRefused, chosen, opened}
+use Rattle.words.specs.WordLaws.{length-withWord32}
+use Rattle.words.specs.RunLaws.{length-lay}
+use Rattle.views.specs.StoreLaws.{length-withView}
 use Rattle.pool.specs.CarryLaws.{length-carried}
 use Rattle.room.specs.BackLaws.{opened-answer}
 use Rattle.tallies.specs.TallyLaws.{length-withTally}
@@ -31,20 +34,20 @@ use Rattle.rules.specs.Stays.{same-column, Beside, beside-refl, beside-t
 -- a count, and a number at the end of a list
 pub counting-beside : (w : World) (slot k v : ℕ) → Beside w (counting w slot k v)
 unfolding counting
-counting-beside w slot k v = beside-state w _ refl refl (length-withTally (w .books) (tally (w .state) slot k) v)
+counting-beside w slot k v = beside-state w _ refl refl refl (length-withTally (w .books) (tally (w .state) slot k) v)
 
 pub listing-beside : (w : World) (slot c number : ℕ) → Beside w (listing w slot c number)
 unfolding listing counting
-listing-beside w slot c number = beside-state w _ refl refl (length-withTally (w .books) (tally (w .state) slot (c + 1)) _)
+listing-beside w slot c number = beside-state w _ refl (length-withWord32 (w .slots) _ number) refl (length-withTally (w .books) (tally (w .state) slot (c + 1)) _)
 
 -- bits and bytes
 pub bits-beside : (w : World) (b : Batch) (c slot at from n : ℕ) → Beside w (bitsCopied w b c slot at from n)
 unfolding bitsCopied
-bits-beside w b c slot at from n = beside-state w _ refl refl refl
+bits-beside w b c slot at from n = beside-state w _ refl (length-lay _ _ (w .slots)) refl refl
 
 pub values-beside : (w : World) (b : Batch) (c slot at from n : ℕ) → Beside w (valuesCopied w b c slot at from n)
 unfolding valuesCopied
-values-beside w b c slot at from n = beside-state w _ refl refl refl
+values-beside w b c slot at from n = beside-state w _ refl (length-lay _ _ (w .slots)) refl refl
 
 -- a block closed
 pub closed-beside : (w : World) (c : ℕ) → Beside w (closed w c)
@@ -57,6 +60,7 @@ closed-beside w c =
       place = refl;
       queued = refl;
       buffered = refl;
+      slots = listing-beside w (filling w) c (openNumber w c) .slots;
       pool = listing-beside w (filling w) c (openNumber w c) .pool;
       books = listing-beside w (filling w) c (openNumber w c) .books;
     })
@@ -81,6 +85,7 @@ by-answer w c min (Chosen.At r) s f l =
       place = refl;
       queued = refl;
       buffered = refl;
+      slots = refl;
       pool = refl;
       books = l;
     })
@@ -106,9 +111,9 @@ after p h = holds-more h (λ u q. beside-trans p q) (λ n m. m)
 pub view-holds : (w : World) (b : Batch) (c at from : ℕ) → Holds (Beside w) (Among (8 ∷ [])) (viewCompacted w b c at from)
 unfolding viewCompacted longCompacted
 view-holds w b c at from =
-    holds-cond (isInline (rowView w b c from)) (λ h. held (beside-state w _ refl refl refl))
+    holds-cond (isInline (rowView w b c from)) (λ h. held (beside-state w _ refl (length-withView (w .slots) _ _) refl refl))
     (λ h. holds-cond (leb (openFilled w c) 4294967295)
-    (λ l. held (beside-state w _ refl (length-carried (w .pool) _ _ _) (length-withLength (w .books) (openNumber w c) _)))
+    (λ l. held (beside-state w _ refl (length-withView (w .slots) _ _) (length-carried (w .pool) _ _ _) (length-withLength (w .books) (openNumber w c) _)))
     (λ l. refused (one-of (8 ∷ []) 8 tt)))
 
 pub views-holds : (w : World) (b : Batch) (c at from n : ℕ) → Holds (Beside w) (Among (8 ∷ [])) (viewsCompacted w b c at from n)
@@ -141,13 +146,13 @@ compacted-holds w b c at from n =
 pub attached-beside : (w : World) (b : Batch) (c : ℕ) → Beside w (listAttached w b c)
 unfolding listAttached
 attached-beside w b c =
-    beside-trans (beside-state w _ refl refl (length-overList listedOne length-listedOne (w .books) (listOf b c) (recordOf b c .count)))
+    beside-trans (beside-state w _ refl (length-lay _ _ (w .slots)) refl (length-overList listedOne length-listedOne (w .books) (listOf b c) (recordOf b c .count)))
     (counting-beside _ (filling w) (c + 1) _)
 
 -- n views raised
 pub raised-beside : (w : World) (b : Batch) (c k at from n : ℕ) → Beside w (viewsRaised w b c k at from n)
 unfolding viewsRaised
-raised-beside w b c k at from n = each-beside n _ w (λ v i. beside-state v _ refl refl refl)
+raised-beside w b c k at from n = each-beside n _ w (λ v i. beside-state v _ refl (length-withView (v .slots) _ _) refl refl)
 
 -- a part attached
 pub attached-holds : (w : World) (b : Batch) (c at from n : ℕ) → Holds (Beside w) (Among (10 ∷ [])) (partAttached w b c at from n)

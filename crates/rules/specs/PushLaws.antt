@@ -92,6 +92,7 @@ queueing-ends w rows l =
       kept =
           record {
             set-up = same-counts (w .state) (nextSlot (w .state) (w .state .place)) (w .state .queued + 1) 0;
+            slots = refl;
             pool = refl;
             books = counting-beside w (w .state .place) 0 rows .books;
             queued = λ h. omega arith;
@@ -151,6 +152,7 @@ taken-holds w₀ w b from n =
       kept =
           record {
             set-up = same-counts (v .state) (v .state .place) (v .state .queued) (v .state .buffered .0 + n);
+            slots = refl;
             pool = refl;
             books = refl;
             queued = λ h. h;

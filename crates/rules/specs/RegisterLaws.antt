@@ -98,7 +98,7 @@ module _ (w : World) (bytes : List ℕ) (capacity : ℕ) where
       go (yes h) =
           rw (register-steps h)
           (beside-stays
-          (beside-state w _ refl (pool-registered (w .books) (w .pool) (w .state .numbers) bytes capacity)
+          (beside-state w _ refl refl (pool-registered (w .books) (w .pool) (w .state .numbers) bytes capacity)
           (length-registered (w .books) (w .pool) (w .state .numbers) bytes capacity)))
 
 -- ---- let go
@@ -149,4 +149,4 @@ module _ (w : World) (i : ℕ) where
     where
       go : Dec (tested w ≡ 0) → Stays w (letGoCall w i .world)
       go (no h) = rw (let-go-tested h) (stays-refl w)
-      go (yes h) = rw (let-go-steps h) (beside-stays (beside-state w _ refl refl (length-letGo (w .books) i)))
+      go (yes h) = rw (let-go-steps h) (beside-stays (beside-state w _ refl refl refl (length-letGo (w .books) i)))

@@ -1,4 +1,4 @@
--- What calls leave as it is: what set-up fixed, the lengths of pool and books, and the ranges of the counts.
+-- What calls leave as it is: what set-up fixed, the lengths of the memories, and the ranges of the counts.
 use Prim.Native.Nat.{ℕ, zero, suc, _≤_, _<_}
 use mathlib.Core.Path.{_≡_, refl, _∙_, ap}
 use mathlib.Core.List.{List, [], _∷_}
@@ -97,17 +97,18 @@ pub record Counted (s : BatchCoalescer) : Type 0 where
   pub queued : s .queued ≤ s .queue
   pub place : s .place ≤ s .queue
 
--- what a part of a push leaves as it was: the set-up, the counts, and the lengths of pool and books
+-- what a part of a push leaves as it was: the set-up, the counts, and the lengths of the memories
 pub record Beside (w v : World) : Type 0 where
   pub set-up : SameSetUp (w .state) (v .state)
   pub place : v .state .place ≡ w .state .place
   pub queued : v .state .queued ≡ w .state .queued
   pub buffered : v .state .buffered ≡ w .state .buffered
+  pub slots : length (v .slots) ≡ length (w .slots)
   pub pool : length (v .pool) ≡ length (w .pool)
   pub books : length (v .books) ≡ length (w .books)
 
 pub beside-refl : (w : World) → Beside w w
-beside-refl w = record { set-up = same-refl (w .state); place = refl; queued = refl; buffered = refl; pool = refl; books = refl }
+beside-refl w = record { set-up = same-refl (w .state); place = refl; queued = refl; buffered = refl; slots = refl; pool = refl; books = refl }
 
 pub beside-trans : {w v u : World} → Beside w v → Beside v u → Beside w u
 beside-trans a b =
@@ -116,6 +117,7 @@ beside-trans a b =
       place = b .place ∙ a .place;
       queued = b .queued ∙ a .queued;
       buffered = b .buffered ∙ a .buffered;
+      slots = b .slots ∙ a .slots;
       pool = b .pool ∙ a .pool;
       books = b .books ∙ a .books;
     }
@@ -126,14 +128,15 @@ unfolding each
 each-beside zero f w h = beside-refl w
 each-beside (suc n) f w h = beside-trans (each-beside n f w h) (h (each n f w) n)
 
--- a world of the same state, with a pool and books of the same lengths
-pub beside-state : (w v : World) → v .state ≡ w .state → length (v .pool) ≡ length (w .pool) → length (v .books) ≡ length (w .books) → Beside w v
-beside-state w v e p l =
+-- a world of the same state, with memories of the same lengths
+pub beside-state : (w v : World) → v .state ≡ w .state → length (v .slots) ≡ length (w .slots) → length (v .pool) ≡ length (w .pool) → length (v .books) ≡ length (w .books) → Beside w v
+beside-state w v e t p l =
     record {
       set-up = rw e (same-refl (w .state));
       place = ap (λ s. s .place) e;
       queued = ap (λ s. s .queued) e;
       buffered = ap (λ s. s .buffered) e;
+      slots = t;
       pool = p;
       books = l;
     }
@@ -141,6 +144,7 @@ beside-state w v e p l =
 -- what a step leaves that queues: queued and place stay within Q
 pub record Kept (w v : World) : Type 0 where
   pub set-up : SameSetUp (w .state) (v .state)
+  pub slots : length (v .slots) ≡ length (w .slots)
   pub pool : length (v .pool) ≡ length (w .pool)
   pub books : length (v .books) ≡ length (w .books)
   pub queued : w .state .queued ≤ w .state .queue → v .state .queued ≤ v .state .queue
@@ -150,6 +154,7 @@ pub kept-trans : {w v u : World} → Kept w v → Kept v u → Kept w u
 kept-trans a b =
     record {
       set-up = same-trans (a .set-up) (b .set-up);
+      slots = b .slots ∙ a .slots;
       pool = b .pool ∙ a .pool;
       books = b .books ∙ a .books;
       queued = λ h. b .queued (a .queued h);
@@ -160,6 +165,7 @@ pub beside-kept : {w v : World} → Beside w v → Kept w v
 beside-kept a =
     record {
       set-up = a .set-up;
+      slots = a .slots;
       pool = a .pool;
       books = a .books;
       queued = λ h. rw (a .queued, a .set-up .queue) h;

@@ -5,7 +5,7 @@ use mathlib.Core.Option.{Option, none, some}
 use lib.ListN.{length}
 use lib.Dec.{ltb, leb}
 use Rattle.search.specs.First.{first}
-use Rattle.words.specs.Run.{read, put}
+use Rattle.words.specs.Run.{read, lay}
 use Rattle.bits.specs.Bits.{appended}
 use Rattle.blocks.specs.Block.{asked}
 use Rattle.books.specs.Entry.{entryOf}
@@ -33,7 +33,7 @@ filling w = w .state .place
 unfoldable pub bitsCopied : World → Batch → ℕ → ℕ → ℕ → ℕ → ℕ → World
 bitsCopied w b c slot at from n =
     inSlots w
-    (put (bitmapPlace (w .state) slot c)
+    (lay (bitmapPlace (w .state) slot c)
     (appended (read (bitmapPlace (w .state) slot c) (bitmapBytes (w .state)) (w .slots)) at (λ i. rowBit b c (from + i)) n)
     (w .slots))
 
@@ -41,7 +41,7 @@ bitsCopied w b c slot at from n =
 unfoldable pub valuesCopied : World → Batch → ℕ → ℕ → ℕ → ℕ → ℕ → World
 valuesCopied w b c slot at from n =
     inSlots w
-    (put (cellPlace (w .state) slot c at) (read (valuePlace w b c from) (n * widthOf (w .state) c) (b .body)) (w .slots))
+    (lay (cellPlace (w .state) slot c at) (read (valuePlace w b c from) (n * widthOf (w .state) c) (b .body)) (w .slots))
 
 -- ---- blocks
 
@@ -157,7 +157,7 @@ listAttached w b c =
     counting
     (record {
       state = w .state;
-      slots = put (listPlace (w .state) (filling w) c + 4 * listLength w (filling w) c) (listOf b c) (w .slots);
+      slots = lay (listPlace (w .state) (filling w) c + 4 * listLength w (filling w) c) (listOf b c) (w .slots);
       pool = w .pool;
       books = overList listedOne (w .books) (listOf b c) (recordOf b c .count);
     })

@@ -8,7 +8,7 @@ use native.Mathlib.Numerals.{add-one}
 use lib.ListN.{length, take, drop, set, getD, length-drop, length-take, length-append, drop-of-length-le, take-append-drop}
 use lib.Seq.{paste-suc, take-length, take-all, drop-drop, take-at, drop-at, take-append-le, drop-append-le, take-append-seam, length-take-le}
 use borrow.Rule.Slice.PartMut.{putMid}
-use Rattle.words.specs.Run.{read, put}
+use Rattle.words.specs.Run.{read, put, lay}
 
 -- d with its first i bytes from s, as copy_into leaves it after i turns
 unfoldable pub copied : List ℕ → List ℕ → ℕ → List ℕ
@@ -110,3 +110,16 @@ module _ (at : ℕ) (bs pool : List ℕ) (h : at + length bs ≤ length pool) wh
   pub read-put-inside : (x m : ℕ) → x + m ≤ length bs → read (at + x) m (put at bs pool) ≡ read x m bs
   read-put-inside x m k =
       sym (read-read x m at (length bs) (put at bs pool) k (omega (arith, length-put))) ∙ ap (read x m) read-put-same
+
+-- laying bytes: no length changes, and where they fit it is a put
+put-reaches : (at : ℕ) (bs s : List ℕ) → length s ≤ length (put at bs s)
+unfolding put
+put-reaches at bs s = simp (length-append, length-take, length-drop) (omega arith)
+
+pub length-lay : (at : ℕ) (bs s : List ℕ) → length (lay at bs s) ≡ length s
+unfolding lay
+length-lay at bs s = length-take (length s) (put at bs s) ∙ omega (arith, put-reaches at bs s)
+
+pub lay-put : (at : ℕ) (bs s : List ℕ) → at + length bs ≤ length s → lay at bs s ≡ put at bs s
+unfolding lay
+lay-put at bs s h = take-all (length s) (put at bs s) (omega (arith, length-put at bs s h))
