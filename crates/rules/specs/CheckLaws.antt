@@ -2,18 +2,24 @@
 use Prim.Native.Nat.{ℕ, _*_, _≤_, _<_}
 use mathlib.Core.Path.{_≡_, refl, sym, _∙_, ap, subst}
 use mathlib.Core.Logic.{_≢_}
-use mathlib.Core.Bool.{Bool, true, false, not, cond, true≢false}
-use mathlib.Core.List.{[], _∷_}
+use mathlib.Core.Bool.{Bool, true, false, not, true≢false}
+use mathlib.Core.List.{List, [], _∷_}
 use mathlib.Core.Option.{Option, none, some}
+use native.Mathlib.Omega.{arith}
+use native.Mathlib.Decide.{decLt, ℕ-discrete}
 use lib.ListN.{length}
-use lib.Dec.{leb, eqb}
-use borrow.Author.Tests.{leb-true, leb-false, eqb-true, eqb-false, not-true, not-false}
+use borrow.Author.Tests.{not-true, not-false}
 use Rattle.search.specs.First.{first, Lowest}
 use Rattle.search.specs.FirstLaws.{at-says, nothing-says}
 use Rattle.state.specs.World.{World}
 use Rattle.rules.specs.Batch.{Batch}
-use Rattle.rules.specs.Checks.{keepsRules, liesInBody, allHeld, validRow, badRow, Fault, fault, rowFault, columnFault, isFault, ofColumn, batchFault}
+use Rattle.rules.specs.Checks.{keepsRules, liesInBody, allHeld, validRow, badRow, Fault, columnFault, isFault, ofColumn, batchFault}
 use Rattle.rules.specs.Held.{Among, one-of}
+use Rattle.rules.specs.ExitLaws.{column-four, column-five, column-six, column-seven, column-none, batch-two, batch-three, columns-left}
+
+-- the numbers of the checks
+abbrev pub checkNumbers : List ℕ
+checkNumbers = 2 ∷ 3 ∷ 4 ∷ 5 ∷ 6 ∷ 7 ∷ []
 
 module _ (w : World) (b : Batch) where
   -- ---- one column
@@ -38,32 +44,21 @@ module _ (w : World) (b : Batch) where
   ColumnSays c (some f) = ColumnBad c f × (f .column ≡ c)
 
   pub column-says : (c : ℕ) → ColumnSays c (columnFault w b c)
-  unfolding columnFault badRow
-  column-says c = rules (keepsRules w b c) refl
+  unfolding badRow
+  column-says c = go (keepsRules w b c) refl (liesInBody w b c) refl (allHeld w b c) refl (badRow w b c) refl
     where
-      rows : keepsRules w b c ≡ true → liesInBody w b c ≡ true → allHeld w b c ≡ true → (r : Option ℕ) → badRow w b c ≡ r → ColumnSays c (rowFault c r)
-      rows p q s none e =
-          record {
-            rules = p;
-            body = q;
-            held = s;
-            valid = λ i l. not-false _ (nothing-says (λ i. not (validRow w b c i)) (b .rows) e i l);
-          }
-      rows p q s (some i) e =
+      go : (x : Bool) → keepsRules w b c ≡ x → (y : Bool) → liesInBody w b c ≡ y → (z : Bool) → allHeld w b c ≡ z → (o : Option ℕ) → badRow w b c ≡ o → ColumnSays c (columnFault w b c)
+      go false p y q z r o e = rw (column-four w b c p) (four refl p, refl)
+      go true p false q z r o e = rw (column-five w b c p q) (five refl p q, refl)
+      go true p true q false r o e = rw (column-six w b c p q r) (six refl p q r, refl)
+      go true p true q true r none e =
+          let v : (i : ℕ) → i < b .rows → validRow w b c i ≡ true = λ i l. not-false _ (nothing-says (λ i. not (validRow w b c i)) (b .rows) e i l) in
+          rw (column-none w b c p q r v) (record { rules = p; body = q; held = r; valid = v })
+      go true p true q true r (some i) e =
           let m : Lowest (λ i. not (validRow w b c i)) (b .rows) i = at-says (λ i. not (validRow w b c i)) (b .rows) i e in
-          (seven refl p q s (m .below) (not-true _ (m .accepted)) (λ j l. not-false _ (m .others j l)), refl)
-
-      held : keepsRules w b c ≡ true → liesInBody w b c ≡ true → (x : Bool) → allHeld w b c ≡ x → ColumnSays c (cond x (rowFault c (badRow w b c)) (fault 6 c 0))
-      held p q true e = rows p q e (badRow w b c) refl
-      held p q false e = (six refl p q e, refl)
-
-      body : keepsRules w b c ≡ true → (x : Bool) → liesInBody w b c ≡ x → ColumnSays c (cond x (cond (allHeld w b c) (rowFault c (badRow w b c)) (fault 6 c 0)) (fault 5 c 0))
-      body p true e = held p e (allHeld w b c) refl
-      body p false e = (five refl p e, refl)
-
-      rules : (x : Bool) → keepsRules w b c ≡ x → ColumnSays c (cond x (cond (liesInBody w b c) (cond (allHeld w b c) (rowFault c (badRow w b c)) (fault 6 c 0)) (fault 5 c 0)) (fault 4 c 0))
-      rules true e = body e (liesInBody w b c) refl
-      rules false e = (four refl e, refl)
+          let v : validRow w b c i ≡ false = not-true _ (m .accepted) in
+          let o : (j : ℕ) → j < i → validRow w b c j ≡ true = λ j l. not-false _ (m .others j l) in
+          rw (column-seven w b c i p q r (m .below) v o) (seven refl p q r (m .below) v o, refl)
 
   pub column-good : (c : ℕ) → columnFault w b c ≡ none → ColumnGood c
   column-good c e = rw e at (column-says c)
@@ -85,17 +80,18 @@ module _ (w : World) (b : Batch) where
     three : f .number ≡ 3 → length (b .records) ≡ 32 * w .state .columns → w .state .rows .0 < b .rows → BatchBad f
     inColumn : length (b .records) ≡ 32 * w .state .columns → b .rows ≤ w .state .rows .0 → f .column < w .state .columns → ((c : ℕ) → c < f .column → columnFault w b c ≡ none) → columnFault w b (f .column) ≡ some f → ColumnBad (f .column) f → BatchBad f
 
+  -- what the checks of the batch say
   abbrev pub BatchSays : Option Fault → Type 0
   BatchSays none = BatchGood
   BatchSays (some f) = BatchBad f
 
+  -- no fault is none
   no-fault : (o : Option Fault) → isFault o ≡ false → o ≡ none
   no-fault none e = refl
   no-fault (some f) e = absurd (true≢false e)
 
   pub batch-says : BatchSays (batchFault w b)
-  unfolding batchFault
-  batch-says = records (eqb (length (b .records)) (32 * w .state .columns)) refl
+  batch-says = go (ℕ-discrete (length (b .records)) (32 * w .state .columns)) (decLt (w .state .rows .0) (b .rows))
     where
       at : (b .rows ≤ w .state .rows .0) → length (b .records) ≡ 32 * w .state .columns → (c : ℕ) → Lowest (λ c. isFault (columnFault w b c)) (w .state .columns) c → (o : Option Fault) → columnFault w b c ≡ o → BatchSays o
       at p q c m none e = absurd (true≢false (sym (m .accepted) ∙ ap isFault e))
@@ -115,13 +111,12 @@ module _ (w : World) (b : Batch) where
       columns p q (some c) e =
           at p q c (at-says (λ c. isFault (columnFault w b c)) (w .state .columns) c e) (columnFault w b c) refl
 
-      rows : length (b .records) ≡ 32 * w .state .columns → (x : Bool) → leb (b .rows) (w .state .rows .0) ≡ x → BatchSays (cond x (ofColumn (columnFault w b) (first (λ c. isFault (columnFault w b c)) (w .state .columns))) (fault 3 0 0))
-      rows q true e = columns (leb-true _ _ e) q (first (λ c. isFault (columnFault w b c)) (w .state .columns)) refl
-      rows q false e = three refl q (leb-false _ _ e)
-
-      records : (x : Bool) → eqb (length (b .records)) (32 * w .state .columns) ≡ x → BatchSays (cond x (cond (leb (b .rows) (w .state .rows .0)) (ofColumn (columnFault w b) (first (λ c. isFault (columnFault w b c)) (w .state .columns))) (fault 3 0 0)) (fault 2 0 0))
-      records true e = rows (eqb-true _ _ e) (leb (b .rows) (w .state .rows .0)) refl
-      records false e = two refl (eqb-false _ _ e)
+      go : Dec (length (b .records) ≡ 32 * w .state .columns) → Dec (w .state .rows .0 < b .rows) → BatchSays (batchFault w b)
+      go (no q) d = rw (batch-two w b q) (two refl q)
+      go (yes q) (yes l) = rw (batch-three w b q l) (three refl q l)
+      go (yes q) (no l) =
+          let p : b .rows ≤ w .state .rows .0 = omega arith in
+          rw (columns-left w b q p) (columns p q (first (λ c. isFault (columnFault w b c)) (w .state .columns)) refl)
 
   pub batch-good : batchFault w b ≡ none → BatchGood
   batch-good e = rw e at batch-says
@@ -129,20 +124,20 @@ module _ (w : World) (b : Batch) where
   pub batch-bad : (f : Fault) → batchFault w b ≡ some f → BatchBad f
   batch-bad f e = rw e at batch-says
 
-  -- the numbers of the checks
-  pub fault-number : (f : Fault) → batchFault w b ≡ some f → Among (2 ∷ 3 ∷ 4 ∷ 5 ∷ 6 ∷ 7 ∷ []) (f .number)
+  -- a fault has one of these numbers
+  pub fault-number : (f : Fault) → batchFault w b ≡ some f → Among checkNumbers (f .number)
   fault-number f e = go (batch-bad f e)
     where
-      is : (n : ℕ) → Among (2 ∷ 3 ∷ 4 ∷ 5 ∷ 6 ∷ 7 ∷ []) n → f .number ≡ n → Among (2 ∷ 3 ∷ 4 ∷ 5 ∷ 6 ∷ 7 ∷ []) (f .number)
+      is : (n : ℕ) → Among checkNumbers n → f .number ≡ n → Among checkNumbers (f .number)
       is n a q = rw q a
 
-      column : (c : ℕ) → ColumnBad c f → Among (2 ∷ 3 ∷ 4 ∷ 5 ∷ 6 ∷ 7 ∷ []) (f .number)
+      column : (c : ℕ) → ColumnBad c f → Among checkNumbers (f .number)
       column c (four q p) = is 4 (one-of _ 4 tt) q
       column c (five q p r) = is 5 (one-of _ 5 tt) q
       column c (six q p r s) = is 6 (one-of _ 6 tt) q
       column c (seven q p r s l v o) = is 7 (one-of _ 7 tt) q
 
-      go : BatchBad f → Among (2 ∷ 3 ∷ 4 ∷ 5 ∷ 6 ∷ 7 ∷ []) (f .number)
+      go : BatchBad f → Among checkNumbers (f .number)
       go (two q p) = is 2 (one-of _ 2 tt) q
       go (three q p r) = is 3 (one-of _ 3 tt) q
       go (inColumn p r l o q x) = column (f .column) x

@@ -9,7 +9,10 @@ pub mod Calls
 pub mod Held
 pub mod Stays
 pub mod TestLaws
+pub mod SameLaws
+pub mod ExitLaws
 pub mod CheckLaws
+pub mod StepLaws
 pub mod PartLaws
 pub mod PushLaws
 pub mod RegisterLaws
