@@ -6,6 +6,8 @@ pub mod Steps
 pub mod Views
 pub mod Push
 pub mod Calls
+pub mod Scene
+pub mod Worked
 pub mod Held
 pub mod Stays
 pub mod TestLaws
@@ -18,5 +20,3 @@ pub mod PushLaws
 pub mod RegisterLaws
 pub mod CallLaws
 pub mod SizeLaws
-pub mod Scene
-pub mod Worked
