@@ -10,6 +10,8 @@ use Rattle.views.specs.declared.View.{View}
 use Rattle.views.specs.View.{viewOf, longLength}
 use Rattle.books.specs.Entry.{entryOf}
 use Rattle.sound.specs.Sound.{filledBytes}
+use Rattle.rules.specs.declared.ColumnRecord.{ColumnRecord}
+use Rattle.rules.specs.declared.Way.{Way}
 use Rattle.state.specs.World.{World}
 use Rattle.state.specs.Layout.{widthOf, isViews}
 use Rattle.state.specs.Rows.{Cell, Row, upTo, cellOf}
@@ -22,16 +24,6 @@ pub record Batch : Type 0 where
 
 -- 01: "eight little-endian u32 words: kind; start of values; start of validity, 4,294,967,295 for none; first bit; start of
 -- buffer list; list count; two words that are zero"
-pub record ColumnRecord : Type 0 where
-  pub kind : ℕ
-  pub values : ℕ
-  pub validity : ℕ
-  pub first : ℕ
-  pub list : ℕ
-  pub count : ℕ
-  pub spare : ℕ
-  pub spare′ : ℕ
-
 unfoldable pub recordOf : Batch → ℕ → ColumnRecord
 recordOf b c =
     record {
@@ -42,7 +34,7 @@ recordOf b c =
       list = word32 (b .records) (32 * c + 16);
       count = word32 (b .records) (32 * c + 20);
       spare = word32 (b .records) (32 * c + 24);
-      spare′ = word32 (b .records) (32 * c + 28);
+      spare2 = word32 (b .records) (32 * c + 28);
     }
 
 unfoldable pub hasBitmap : ColumnRecord → Bool
@@ -96,13 +88,9 @@ ideal w b c = sumTo (b .rows) (λ i. longLength (rowView w b c i))
 unfoldable pub actual : World → Batch → ℕ → ℕ
 actual w b c = sumTo (recordOf b c .count) (λ i. entryOf (w .books) (listedNumber b c i) .capacity .0)
 
--- the three ways of a column of views
-pub data Way : Type 0 where
-  copied attached compacted : Way
-
 -- 01: "Ideal 0: views copied, list not attached. Actual > 2 x ideal: compact. .. Otherwise: .. attach the whole list"
 unfoldable pub wayOf : ℕ → ℕ → Way
-wayOf id ac = cond (eqb id 0) copied (cond (ltb (2 * id) ac) compacted attached)
+wayOf id ac = cond (eqb id 0) Way.Copied (cond (ltb (2 * id) ac) Way.Compacted Way.Attached)
 
 unfoldable pub way : World → Batch → ℕ → Way
 way w b c = wayOf (ideal w b c) (actual w b c)

@@ -21,7 +21,7 @@ use Rattle.state.specs.declared.Limit.{Limit}
 use Rattle.state.specs.declared.OpenBlock.{OpenBlock}
 use Rattle.state.specs.declared.Place.{Place}
 use Rattle.state.specs.declared.RowAnswer.{RowAnswer}
-use Rattle.state.specs.World.{World, noColumn}
+use Rattle.state.specs.World.{World}
 use Rattle.state.specs.Layout.{widthOf, isViews, bitmapPlace, listPlace, cellPlace, rowsIn, listLength}
 use Rattle.state.specs.Rows.{Cell, null, value, listedAt, frontSlot}
 use Rattle.rules.specs.Batch.{Batch}
@@ -57,7 +57,7 @@ ofKind k = record { kind = k; source = fresh; block = OpenBlock.Closed }
 
 unfoldable pub columnsFor : List ℕ → ℕ → List Column
 columnsFor kinds zero = []
-columnsFor [] (suc n) = noColumn ∷ columnsFor [] n
+columnsFor [] (suc n) = ofKind 0 ∷ columnsFor [] n
 columnsFor (k ∷ ks) (suc n) = ofKind k ∷ columnsFor ks n
 
 -- the state that set-up makes. 01: "Set-up empties state and books, sets no limit, and changes no slot or pool byte."

@@ -13,7 +13,8 @@ use Rattle.search.specs.First.{first, Lowest}
 use Rattle.search.specs.FirstLaws.{at-says, nothing-says}
 use Rattle.state.specs.World.{World}
 use Rattle.rules.specs.Batch.{Batch}
-use Rattle.rules.specs.Checks.{keepsRules, liesInBody, allHeld, validRow, badRow, Fault, columnFault, isFault, ofColumn, batchFault}
+use Rattle.rules.specs.declared.Fault.{Fault}
+use Rattle.rules.specs.Checks.{keepsRules, liesInBody, allHeld, validRow, badRow, columnFault, isFault, ofColumn, batchFault}
 use Rattle.rules.specs.Held.{Among, one-of}
 use Rattle.rules.specs.ExitLaws.{column-four, column-five, column-six, column-seven, column-none, batch-two, batch-three, columns-left}
 

@@ -10,6 +10,7 @@ use Rattle.views.specs.View.{isValid}
 use Rattle.pool.specs.Register.{isHeld}
 use Rattle.state.specs.World.{World, columnOf}
 use Rattle.state.specs.Layout.{widthOf, isViews}
+use Rattle.rules.specs.declared.Fault.{Fault}
 use Rattle.rules.specs.Batch.{Batch, recordOf, hasBitmap, listedNumber, listedBytes, rowView}
 
 -- 4: "a record of the wrong kind or against its rules": its kind is the column's; "two words that are zero"; "No validity:
@@ -18,7 +19,7 @@ unfoldable pub keepsRules : World → Batch → ℕ → Bool
 keepsRules w b c =
     eqb (recordOf b c .kind) (columnOf (w .state) c .kind)
     && (eqb (recordOf b c .spare) 0
-    && (eqb (recordOf b c .spare′) 0
+    && (eqb (recordOf b c .spare2) 0
     && (cond (hasBitmap (recordOf b c)) true (eqb (recordOf b c .first) 0)
     && (cond (eqb (recordOf b c .count) 0) (eqb (recordOf b c .list) 0) true
     && cond (isViews (w .state) c) true (eqb (recordOf b c .count) 0)))))
@@ -51,12 +52,7 @@ validRow w b c i =
 unfoldable pub badRow : World → Batch → ℕ → Option ℕ
 badRow w b c = first (λ i. not (validRow w b c i)) (b .rows)
 
--- a fault: its number, the column and the row where it is (0 where it is none's)
-pub record Fault : Type 0 where
-  pub number : ℕ
-  pub column : ℕ
-  pub row : ℕ
-
+-- a fault of the batch at a column and a row
 abbrev pub fault : ℕ → ℕ → ℕ → Option Fault
 fault number column row = some (record { number = number; column = column; row = row })
 

@@ -10,7 +10,8 @@ use Rattle.search.specs.First.{first}
 use Rattle.search.specs.FirstLaws.{at-is, nothing-is}
 use Rattle.state.specs.World.{World}
 use Rattle.rules.specs.Batch.{Batch}
-use Rattle.rules.specs.Checks.{keepsRules, liesInBody, allHeld, validRow, badRow, Fault, fault, rowFault, columnFault, isFault, ofColumn, batchFault}
+use Rattle.rules.specs.declared.Fault.{Fault}
+use Rattle.rules.specs.Checks.{keepsRules, liesInBody, allHeld, validRow, badRow, fault, rowFault, columnFault, isFault, ofColumn, batchFault}
 
 module _ (w : World) (b : Batch) where
   -- ---- one column

@@ -24,7 +24,8 @@ use Rattle.views.specs.View.{isInline}
 use Rattle.state.specs.declared.OpenBlock.{OpenBlock}
 use Rattle.state.specs.World.{World, columnOf}
 use Rattle.state.specs.Layout.{tally, isViews, listLength}
-use Rattle.rules.specs.Batch.{Batch, recordOf, listOf, rowView, ideal, Way, copied, attached, compacted, way}
+use Rattle.rules.specs.declared.Way.{Way}
+use Rattle.rules.specs.Batch.{Batch, recordOf, listOf, rowView, ideal, way}
 use Rattle.rules.specs.Steps.{Res, counting, listing}
 use Rattle.rules.specs.Views.{filling, bitsCopied, valuesCopied, isOpen, openNumber, openFilled, openRest, closed, opening, blockOpened, longCompacted, viewCompacted, viewsCompacted, walked, partCompacted, listAttached, viewsRaised, partAttached, byWay, columnCopied, partCopied}
 use Rattle.rules.specs.Held.{Among, one-of, Holds, held, refused, holds-more, holds-bind, holds-cond, holds-each, holds-among}
@@ -164,15 +165,15 @@ attached-holds w b c at from n =
 
 -- a part of a column, by its way; a part of every column
 way-holds : (w : World) (b : Batch) (c at from n : ℕ) (y : Way) → Holds (Beside w) (Among parts) (byWay w b c at from n y)
-way-holds w b c at from n copied = held (values-beside w b c (filling w) at from n)
-way-holds w b c at from n attached = holds-among parts tt (attached-holds w b c at from n)
-way-holds w b c at from n compacted = compacted-holds w b c at from n
+way-holds w b c at from n Way.Copied = held (values-beside w b c (filling w) at from n)
+way-holds w b c at from n Way.Attached = holds-among parts tt (attached-holds w b c at from n)
+way-holds w b c at from n Way.Compacted = compacted-holds w b c at from n
 
 pub column-holds : (w₀ w : World) (b : Batch) (c from n : ℕ) → Holds (Beside w) (Among (8 ∷ 10 ∷ 11 ∷ 12 ∷ [])) (columnCopied w₀ w b c from n)
 unfolding columnCopied
 column-holds w₀ w b c from n =
     after (bits-beside w b c (filling w) (w .state .buffered .0) from n)
-    (way-holds _ b c (w .state .buffered .0) from n (cond (isViews (w .state) c) (way w₀ b c) copied))
+    (way-holds _ b c (w .state .buffered .0) from n (cond (isViews (w .state) c) (way w₀ b c) Way.Copied))
 
 pub part-holds : (w₀ w : World) (b : Batch) (from n : ℕ) → Holds (Beside w) (Among (8 ∷ 10 ∷ 11 ∷ 12 ∷ [])) (partCopied w₀ w b from n)
 unfolding partCopied

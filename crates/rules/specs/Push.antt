@@ -8,7 +8,8 @@ use Rattle.state.specs.declared.Limit.{Limit}
 use Rattle.state.specs.World.{World}
 use Rattle.state.specs.Layout.{isViews, listLength}
 use Rattle.rules.specs.Batch.{Batch, recordOf}
-use Rattle.rules.specs.Checks.{Fault, batchFault}
+use Rattle.rules.specs.declared.Fault.{Fault}
+use Rattle.rules.specs.Checks.{batchFault}
 use Rattle.rules.specs.Ranges.{tested}
 use Rattle.rules.specs.Steps.{Res, ok, refuse, bind, each, buffering, queueing}
 use Rattle.rules.specs.Views.{filling, closed, bitsCopied, valuesCopied, listAttached, partCopied}

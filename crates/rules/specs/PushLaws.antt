@@ -14,7 +14,8 @@ use Rattle.state.specs.declared.BatchCoalescer.{BatchCoalescer}
 use Rattle.state.specs.World.{World}
 use Rattle.state.specs.Layout.{isViews, nextSlot, listLength}
 use Rattle.rules.specs.Batch.{Batch, recordOf}
-use Rattle.rules.specs.Checks.{Fault, isFault, batchFault}
+use Rattle.rules.specs.declared.Fault.{Fault}
+use Rattle.rules.specs.Checks.{isFault, batchFault}
 use Rattle.rules.specs.Ranges.{fitsSetUp, stateInRange, tested}
 use Rattle.rules.specs.TestLaws.{TestedCase, tested-case}
 use Rattle.rules.specs.Steps.{ok, refuse, bind, counting, queueing}

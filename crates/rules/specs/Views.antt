@@ -19,7 +19,8 @@ use Rattle.room.specs.Room.{Outcome, opened}
 use Rattle.state.specs.declared.OpenBlock.{OpenBlock}
 use Rattle.state.specs.World.{World, columnOf}
 use Rattle.state.specs.Layout.{widthOf, isViews, bitmapPlace, bitmapBytes, listPlace, cellPlace, listLength}
-use Rattle.rules.specs.Batch.{Batch, recordOf, rowBit, listedNumber, listOf, valuePlace, rowView, sumTo, ideal, Way, copied, attached, compacted, way}
+use Rattle.rules.specs.declared.Way.{Way}
+use Rattle.rules.specs.Batch.{Batch, recordOf, rowBit, listedNumber, listOf, valuePlace, rowView, sumTo, ideal, way}
 use Rattle.rules.specs.Steps.{Res, ok, refuse, bind, forEach, each, withColumn, inState, inSlots, inBooks, counting, listing}
 
 -- the slot being filled
@@ -183,16 +184,16 @@ partAttached w b c at from n =
 -- ---- a part of a column, and of every column
 
 abbrev pub byWay : World → Batch → ℕ → ℕ → ℕ → ℕ → Way → Res
-byWay w b c at from n copied = ok (valuesCopied w b c (filling w) at from n)
-byWay w b c at from n attached = partAttached w b c at from n
-byWay w b c at from n compacted = partCompacted w b c at from n
+byWay w b c at from n Way.Copied = ok (valuesCopied w b c (filling w) at from n)
+byWay w b c at from n Way.Attached = partAttached w b c at from n
+byWay w b c at from n Way.Compacted = partCompacted w b c at from n
 
 -- n rows of column c from row `from` on, behind those buffered. w₀ is the world at the push: 01's "over the whole pushed column" (DECISIONS
 -- 5: decided once, done per part)
 unfoldable pub columnCopied : World → World → Batch → ℕ → ℕ → ℕ → Res
 columnCopied w₀ w b c from n =
     byWay (bitsCopied w b c (filling w) (w .state .buffered .0) from n) b c (w .state .buffered .0) from n
-    (cond (isViews (w .state) c) (way w₀ b c) copied)
+    (cond (isViews (w .state) c) (way w₀ b c) Way.Copied)
 
 -- 01: "copy that many into every column in order"; the rows are then buffered
 unfoldable pub partCopied : World → World → Batch → ℕ → ℕ → Res

@@ -2,7 +2,6 @@
 use Prim.Native.Nat.{ℕ}
 use mathlib.Core.List.{List}
 use lib.ListN.{getD}
-use Rattle.blocks.specs.Block.{fresh}
 use Rattle.state.specs.declared.BatchCoalescer.{BatchCoalescer}
 use Rattle.state.specs.declared.Column.{Column}
 use Rattle.state.specs.declared.OpenBlock.{OpenBlock}
@@ -14,9 +13,9 @@ pub record World : Type 0 where
   pub pool : List ℕ
   pub books : List ℕ
 
--- a column past the last
+-- what an element past the end of the array reads as: the column of zeros
 abbrev pub noColumn : Column
-noColumn = record { kind = 0; source = fresh; block = OpenBlock.Closed }
+noColumn = record { kind = 0; source = record { current = record { 0 = 0 } }; block = OpenBlock.Closed }
 
 -- column c of the state
 unfoldable pub columnOf : BatchCoalescer → ℕ → Column

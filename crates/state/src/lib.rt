@@ -14,8 +14,8 @@ pub enum Limit {
 
 // The block that a view column is filling, `current`.
 pub enum OpenBlock {
-    Number(BufferNumber),
     Closed,
+    Number(BufferNumber),
 }
 
 // A column: its kind, the block size that it keeps across batches, and its open block.
