@@ -22,6 +22,9 @@ pub record Batch : Type 0 where
   pub records : List ℕ
   pub body : List ℕ
 
+abbrev pub batch : ℕ → List ℕ → List ℕ → Batch
+batch rows records body = record { rows = rows; records = records; body = body }
+
 -- 01: "eight little-endian u32 words: kind; start of values; start of validity, 4,294,967,295 for none; first bit; start of
 -- buffer list; list count; two words that are zero"
 unfoldable pub recordOf : Batch → ℕ → ColumnRecord
@@ -48,9 +51,12 @@ listedNumber b c i = word32 (b .body) (recordOf b c .list + 4 * i)
 unfoldable pub listOf : Batch → ℕ → List ℕ
 listOf b c = read (recordOf b c .list) (4 * recordOf b c .count) (b .body)
 
--- the bytes of that buffer
+-- the bytes of that buffer: of the one listed at place i from `list` of the body on
+unfoldable pub bytesListed : List ℕ → List ℕ → List ℕ → ℕ → ℕ → List ℕ
+bytesListed books pool body list i = filledBytes books pool (word32 body (list + 4 * i))
+
 unfoldable pub listedBytes : World → Batch → ℕ → ℕ → List ℕ
-listedBytes w b c i = filledBytes (w .books) (w .pool) (listedNumber b c i)
+listedBytes w b c = bytesListed (w .books) (w .pool) (b .body) (recordOf b c .list)
 
 -- where row i of column c has its bytes in the body
 unfoldable pub valuePlace : World → Batch → ℕ → ℕ → ℕ
@@ -60,9 +66,12 @@ valuePlace w b c i = recordOf b c .values + i * widthOf (w .state) c
 unfoldable pub rowView : World → Batch → ℕ → ℕ → View
 rowView w b c i = viewOf (b .body) (valuePlace w b c i)
 
--- the bit of row i of column c: 1 where there is no bitmap
+-- the bit of row i of a column with a record: 1 where there is no bitmap
+unfoldable pub bitOf : ColumnRecord → List ℕ → ℕ → ℕ
+bitOf r body i = cond (hasBitmap r) (bitsFrom body (r .validity) (r .first) i) 1
+
 unfoldable pub rowBit : Batch → ℕ → ℕ → ℕ
-rowBit b c i = cond (hasBitmap (recordOf b c)) (bitsFrom (b .body) (recordOf b c .validity) (recordOf b c .first) i) 1
+rowBit b c i = bitOf (recordOf b c) (b .body) i
 
 -- the rows of the batch, as they are at the moment of the push
 unfoldable pub batchCell : World → Batch → ℕ → ℕ → Cell

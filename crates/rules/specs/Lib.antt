@@ -2,6 +2,7 @@
 pub mod Batch
 pub mod Checks
 pub mod Ranges
+pub mod Copies
 pub mod Steps
 pub mod Views
 pub mod Push
@@ -15,6 +16,7 @@ pub mod SameLaws
 pub mod ExitLaws
 pub mod CheckLaws
 pub mod StepLaws
+pub mod CopyLaws
 pub mod PartLaws
 pub mod PushLaws
 pub mod RegisterLaws

@@ -27,7 +27,9 @@ use Rattle.state.specs.Layout.{tally, isViews, listLength}
 use Rattle.rules.specs.declared.Way.{Way}
 use Rattle.rules.specs.Batch.{Batch, recordOf, listOf, rowView, ideal, way}
 use Rattle.rules.specs.Steps.{Res, counting, listing}
-use Rattle.rules.specs.Views.{filling, bitsCopied, valuesCopied, isOpen, openNumber, openFilled, openRest, closed, opening, blockOpened, longCompacted, viewCompacted, viewsCompacted, walked, partCompacted, listAttached, viewsRaised, partAttached, byWay, columnCopied, partCopied}
+use Rattle.rules.specs.Views.{filling, bitsLaid, valuesLaid, bitsCopied, valuesCopied, isOpen, openNumber, openFilled, openRest, closed, opening, blockOpened, viewsFrom, viewsCompacted, walked, partCompacted, listAttached, viewsRaised, partAttached, byWay, columnCopied, partCopied}
+use Rattle.rules.specs.Copies.{startsFit}
+use Rattle.rules.specs.CopyLaws.{length-viewsPut, length-bytesCarried}
 use Rattle.rules.specs.Held.{Among, one-of, Holds, held, refused, holds-more, holds-bind, holds-cond, holds-each, holds-among}
 use Rattle.rules.specs.SizeLaws.{length-withLength, length-listedOne, length-overList, length-opened}
 use Rattle.rules.specs.Stays.{same-column, Beside, beside-refl, beside-trans, each-beside, beside-state}
@@ -43,11 +45,11 @@ listing-beside w slot c number = beside-state w _ refl (length-withWord32 (w .sl
 
 -- bits and bytes
 pub bits-beside : (w : World) (b : Batch) (c slot at from n : ℕ) → Beside w (bitsCopied w b c slot at from n)
-unfolding bitsCopied
+unfolding bitsCopied bitsLaid
 bits-beside w b c slot at from n = beside-state w _ refl (length-lay _ _ (w .slots)) refl refl
 
 pub values-beside : (w : World) (b : Batch) (c slot at from n : ℕ) → Beside w (valuesCopied w b c slot at from n)
-unfolding valuesCopied
+unfolding valuesCopied valuesLaid
 values-beside w b c slot at from n = beside-state w _ refl (length-lay _ _ (w .slots)) refl refl
 
 -- a block closed
@@ -108,20 +110,13 @@ opened-holds w c min =
 pub after : {w v : World} {N : ℕ → Type 0} {r : Res} → Beside w v → Holds (Beside v) N r → Holds (Beside w) N r
 after p h = holds-more h (λ u q. beside-trans p q) (λ n m. m)
 
--- a view copied into the open block, and n of them
-pub view-holds : (w : World) (b : Batch) (c at from : ℕ) → Holds (Beside w) (Among (8 ∷ [])) (viewCompacted w b c at from)
-unfolding viewCompacted longCompacted
-view-holds w b c at from =
-    holds-cond (isInline (rowView w b c from)) (λ h. held (beside-state w _ refl (length-withView (w .slots) _ _) refl refl))
-    (λ h. holds-cond (leb (openFilled w c) 4294967295)
-    (λ l. held (beside-state w _ refl (length-withView (w .slots) _ _) (length-carried (w .pool) _ _ _) (length-withLength (w .books) (openNumber w c) _)))
-    (λ l. refused (one-of (8 ∷ []) 8 tt)))
-
+-- n views copied into the open block
 pub views-holds : (w : World) (b : Batch) (c at from n : ℕ) → Holds (Beside w) (Among (8 ∷ [])) (viewsCompacted w b c at from n)
 unfolding viewsCompacted
 views-holds w b c at from n =
-    holds-each n (λ v i. viewCompacted v b c (at + i) (from + i)) w (beside-refl w)
-    (λ v i l p. after p (view-holds v b c (at + i) (from + i)))
+    holds-cond (startsFit (viewsFrom w b c from) (openFilled w c) n)
+    (λ h. held (beside-state w _ refl (length-viewsPut _ (w .slots) _ n) (length-bytesCarried _ _ (w .pool) _ n) (length-withLength (w .books) (openNumber w c) _)))
+    (λ h. refused (one-of (8 ∷ []) 8 tt))
 
 abbrev parts : List ℕ
 parts = 8 ∷ 10 ∷ 11 ∷ 12 ∷ []
@@ -153,7 +148,7 @@ attached-beside w b c =
 -- n views raised
 pub raised-beside : (w : World) (b : Batch) (c k at from n : ℕ) → Beside w (viewsRaised w b c k at from n)
 unfolding viewsRaised
-raised-beside w b c k at from n = each-beside n _ w (λ v i. beside-state v _ refl (length-withView (v .slots) _ _) refl refl)
+raised-beside w b c k at from n = beside-state w _ refl (length-viewsPut _ (w .slots) _ n) refl refl
 
 -- a part attached
 pub attached-holds : (w : World) (b : Batch) (c at from n : ℕ) → Holds (Beside w) (Among (10 ∷ [])) (partAttached w b c at from n)

@@ -7,6 +7,7 @@ use Rattle.state.specs.declared.BatchCoalescer.{BatchCoalescer}
 use Rattle.state.specs.World.{World}
 use Rattle.state.specs.Layout.{bytesIn, widthOf, isViews, valuesBytes, bitmapBytes, listBytes, columnsBytes, slotBytes, valuesPlace, bitmapPlace, listPlace, cellPlace, slotsLength, booksLength, tally, nextSlot}
 use Rattle.rules.specs.Batch.{Batch, valuePlace, rowView, sumTo, ideal}
+use Rattle.rules.specs.Copies.{longTo}
 use Rattle.rules.specs.Views.{longBefore}
 use Rattle.rules.specs.Stays.{SameSetUp}
 
@@ -95,5 +96,5 @@ module _ (w v : World) (b : Batch) (e : SameSetUp (w .state) (v .state)) where
   same-ideal c = sum-same (b .rows) _ _ (λ i. ap longLength (same-row-view c i))
 
   pub same-long-before : (c from k : ℕ) → longBefore v b c from k ≡ longBefore w b c from k
-  unfolding longBefore
+  unfolding longBefore longTo
   same-long-before c from k = sum-same k _ _ (λ i. ap longLength (same-row-view c (from + i)))

@@ -1,5 +1,6 @@
 -- A part of a pushed column copied into the slot being filled: values, validity, and the three ways of views.
 use Prim.Native.Nat.{ℕ, _+_, _*_, _-_}
+use mathlib.Core.List.{List}
 use mathlib.Core.Bool.{Bool, true, false, cond}
 use mathlib.Core.Option.{Option, none, some}
 use lib.ListN.{length}
@@ -10,18 +11,20 @@ use Rattle.bits.specs.Bits.{appended}
 use Rattle.blocks.specs.Block.{asked}
 use Rattle.books.specs.Entry.{entryOf}
 use Rattle.listings.specs.Listing.{listedOne, overList}
-use Rattle.pool.specs.Carry.{carried}
 use Rattle.sound.specs.Change.{withLength}
 use Rattle.views.specs.declared.View.{View}
-use Rattle.views.specs.View.{isInline, withView, longLength, raisedBy, repointed}
+use Rattle.views.specs.View.{raisedBy, repointed}
 use Rattle.room.specs.declared.Chosen.{Chosen}
 use Rattle.room.specs.Room.{Outcome, opened}
+use Rattle.state.specs.declared.BatchCoalescer.{BatchCoalescer}
 use Rattle.state.specs.declared.OpenBlock.{OpenBlock}
 use Rattle.state.specs.World.{World, columnOf}
 use Rattle.state.specs.Layout.{widthOf, isViews, bitmapPlace, bitmapBytes, listPlace, cellPlace, listLength}
+use Rattle.rules.specs.declared.ColumnRecord.{ColumnRecord}
 use Rattle.rules.specs.declared.Way.{Way}
-use Rattle.rules.specs.Batch.{Batch, recordOf, rowBit, listedNumber, listOf, valuePlace, rowView, sumTo, ideal, way}
-use Rattle.rules.specs.Steps.{Res, ok, refuse, bind, forEach, each, withColumn, inState, inSlots, inBooks, counting, listing}
+use Rattle.rules.specs.Batch.{Batch, recordOf, bitOf, listedNumber, listOf, rowView, ideal, way}
+use Rattle.rules.specs.Copies.{viewsPut, longTo, bytesCarried, startsFit}
+use Rattle.rules.specs.Steps.{Res, ok, refuse, bind, forEach, withColumn, inState, inSlots, inBooks, counting, listing}
 
 -- the slot being filled
 abbrev pub filling : World → ℕ
@@ -29,20 +32,27 @@ filling w = w .state .place
 
 -- ---- validity and values
 
--- n rows of the batch from row `from` on, their bits behind the `at` rows of a slot. 01: "spare bits of the last bitmap byte are
--- zero"; ones where there is no bitmap (DECISIONS 9)
-unfoldable pub bitsCopied : World → Batch → ℕ → ℕ → ℕ → ℕ → ℕ → World
-bitsCopied w b c slot at from n =
-    inSlots w
-    (lay (bitmapPlace (w .state) slot c)
-    (appended (read (bitmapPlace (w .state) slot c) (bitmapBytes (w .state)) (w .slots)) at (λ i. rowBit b c (from + i)) n)
-    (w .slots))
+-- slots with n rows of a column from row `from` on: their bits behind the `at` rows of column c of a slot. 01: "spare bits of the last
+-- bitmap byte are zero"; ones where there is no bitmap (DECISIONS 9)
+unfoldable pub bitsLaid : BatchCoalescer → List ℕ → ColumnRecord → List ℕ → ℕ → ℕ → ℕ → ℕ → ℕ → List ℕ
+bitsLaid s slots r body c slot at from n =
+    lay (bitmapPlace s slot c)
+    (appended (read (bitmapPlace s slot c) (bitmapBytes s) slots) at (λ i. bitOf r body (from + i)) n)
+    slots
 
 -- and their bytes as they stand in the body. 01: "Values under null rows are copied too."
+unfoldable pub valuesLaid : BatchCoalescer → List ℕ → ColumnRecord → List ℕ → ℕ → ℕ → ℕ → ℕ → ℕ → List ℕ
+valuesLaid s slots r body c slot at from n =
+    lay (cellPlace s slot c at) (read (r .values + from * widthOf s c) (n * widthOf s c) body) slots
+
+-- the same of worlds
+unfoldable pub bitsCopied : World → Batch → ℕ → ℕ → ℕ → ℕ → ℕ → World
+bitsCopied w b c slot at from n =
+    inSlots w (bitsLaid (w .state) (w .slots) (recordOf b c) (b .body) c slot at from n)
+
 unfoldable pub valuesCopied : World → Batch → ℕ → ℕ → ℕ → ℕ → ℕ → World
 valuesCopied w b c slot at from n =
-    inSlots w
-    (lay (cellPlace (w .state) slot c at) (read (valuePlace w b c from) (n * widthOf (w .state) c) (b .body)) (w .slots))
+    inSlots w (valuesLaid (w .state) (w .slots) (recordOf b c) (b .body) c slot at from n)
 
 -- ---- blocks
 
@@ -100,34 +110,39 @@ blockOpened w c min =
 unfoldable pub sourcePlace : World → Batch → ℕ → View → ℕ
 sourcePlace w b c v = entryOf (w .books) (listedNumber b c (v .index)) .start + v .offset
 
--- a long view v at row `at` of the slot, its bytes copied into the open block at its filled length, with the block's index and that
--- offset. 01: "Copied bytes go into the open block at its filled length."; "Long views get the new index and offset."
-unfoldable pub longCompacted : World → Batch → ℕ → ℕ → View → World
-longCompacted w b c at v =
-    record {
+-- the views of the batch from row `from` on
+abbrev pub viewsFrom : World → Batch → ℕ → ℕ → ℕ → View
+viewsFrom w b c from i = rowView w b c (from + i)
+
+-- the bytes of the long ones among the first k views from `from` on
+unfoldable pub longBefore : World → Batch → ℕ → ℕ → ℕ → ℕ
+longBefore w b c from k = longTo (viewsFrom w b c from) k
+
+-- n views from `from` on, at row `at` of the slot on. Inline ones stand as they are; the bytes of long ones go into the open block at its
+-- filled length, one behind the other. 01: "Copied bytes go into the open block at its filled length."; "Long views get the new index and
+-- offset."
+unfoldable pub viewsCompacted : World → Batch → ℕ → ℕ → ℕ → ℕ → Res
+viewsCompacted w b c at from n =
+    cond (startsFit (viewsFrom w b c from) (openFilled w c) n)
+    (ok
+    (record {
       state = w .state;
       slots =
-          withView (w .slots) (cellPlace (w .state) (filling w) c at) (repointed (listLength w (filling w) c) (openFilled w c) v);
-      pool = carried (w .pool) (sourcePlace w b c v) (entryOf (w .books) (openNumber w c) .start + openFilled w c) (v .length);
-      books = withLength (w .books) (openNumber w c) (openFilled w c + v .length);
-    }
-
--- the view of row `from` at row `at` of the slot: an inline one as it is. 8: "a copied row would start past 4,294,967,295"
-unfoldable pub viewCompacted : World → Batch → ℕ → ℕ → ℕ → Res
-viewCompacted w b c at from =
-    cond (isInline (rowView w b c from))
-    (ok (inSlots w (withView (w .slots) (cellPlace (w .state) (filling w) c at) (rowView w b c from))))
-    (cond (leb (openFilled w c) 4294967295) (ok (longCompacted w b c at (rowView w b c from))) (refuse 8))
-
--- n rows from `from` on, at row `at` of the slot on
-unfoldable pub viewsCompacted : World → Batch → ℕ → ℕ → ℕ → ℕ → Res
-viewsCompacted w b c at from n = forEach n (λ v i. viewCompacted v b c (at + i) (from + i)) w
+          viewsPut
+          (λ i. repointed (listLength w (filling w) c) (openFilled w c + longBefore w b c from i) (rowView w b c (from + i)))
+          (w .slots)
+          (cellPlace (w .state) (filling w) c at)
+          n;
+      pool =
+          bytesCarried (viewsFrom w b c from) (sourcePlace w b c) (w .pool)
+          (entryOf (w .books) (openNumber w c) .start + openFilled w c)
+          n;
+      books = withLength (w .books) (openNumber w c) (openFilled w c + longBefore w b c from n);
+    }))
+    (refuse 8)
 
 -- how many of the n views from `from` on the walk takes. 01: "walk the part's views while the rest is at least the length (lengths
 -- over 12 lower the rest)": the first view that is longer than what the long ones before it leave, or all of them
-unfoldable pub longBefore : World → Batch → ℕ → ℕ → ℕ → ℕ
-longBefore w b c from k = sumTo k (λ i. longLength (rowView w b c (from + i)))
-
 abbrev pub orAll : ℕ → Option ℕ → ℕ
 orAll n none = n
 orAll n (some i) = i
@@ -169,9 +184,8 @@ listAttached w b c =
 -- n views from `from` on, with k added to the index of long ones
 unfoldable pub viewsRaised : World → Batch → ℕ → ℕ → ℕ → ℕ → ℕ → World
 viewsRaised w b c k at from n =
-    each n
-    (λ v i. inSlots v (withView (v .slots) (cellPlace (v .state) (filling v) c (at + i)) (raisedBy k (rowView v b c (from + i)))))
-    w
+    inSlots w
+    (viewsPut (λ i. raisedBy k (rowView w b c (from + i))) (w .slots) (cellPlace (w .state) (filling w) c at) n)
 
 -- 01: "Otherwise: close the open block, attach the whole list, add the earlier list length to the index of long views only.";
 -- "Attaching tests 10, the block it closes counted."

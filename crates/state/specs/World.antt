@@ -13,6 +13,9 @@ pub record World : Type 0 where
   pub pool : List ℕ
   pub books : List ℕ
 
+abbrev pub world : BatchCoalescer → List ℕ → List ℕ → List ℕ → World
+world s slots pool books = record { state = s; slots = slots; pool = pool; books = books }
+
 -- what an element past the end of the array reads as: the column of zeros
 abbrev pub noColumn : Column
 noColumn = record { kind = 0; source = record { current = record { 0 = 0 } }; block = OpenBlock.Closed }

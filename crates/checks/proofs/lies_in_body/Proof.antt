@@ -1,0 +1,46 @@
+-- `checks::lies_in_body` meets its contract.
+use borrow.Author.Needs.{needs}
+use Rattle.checks.specs.RuleLaws.{values-fit, values-few, not-values, not-bits, lies-last}
+use Rattle.checks.proofs.lies_in_body.Statement.{statement}
+use Rattle.checks.proofs.lies_in_body.Tie as tie
+
+mul-in-body : tie.Need-mul-in-body
+mul-in-body c = search (values-fit, needs)
+
+in-body-requires : tie.Need-in-body-requires
+in-body-requires c κs = search (values-few, needs)
+
+bits-in-body-requires : tie.Need-bits-in-body-requires
+bits-in-body-requires c κs = search needs
+
+cast-in-body : tie.Need-cast-in-body
+cast-in-body c = search needs
+
+mul-in-body-2 : tie.Need-mul-in-body-2
+mul-in-body-2 c = search needs
+
+in-body-requires-2 : tie.Need-in-body-requires-2
+in-body-requires-2 c κs = search needs
+
+returns : tie.Need-returns
+returns c = search (lies-last, needs)
+
+returns-2 : tie.Need-returns-2
+returns-2 c = search (not-bits, needs)
+
+returns-3 : tie.Need-returns-3
+returns-3 c = search (not-values, needs)
+
+pub lies-in-body-spec : {M : Type 1} → statement M
+lies-in-body-spec =
+    tie.close
+    (tie.spec
+    mul-in-body
+    in-body-requires
+    bits-in-body-requires
+    cast-in-body
+    mul-in-body-2
+    in-body-requires-2
+    returns
+    returns-2
+    returns-3)

@@ -1,0 +1,301 @@
+// The checks of a pushed batch, 2 to 7 in their order: the first column and row at fault.
+// Added by the port (01, "A pushed batch"); the Rust leaves them to the types of its arrays.
+ghost use mathlib.Core.Path.{_≡_};
+ghost use mathlib.Core.Bool.{true};
+ghost use mathlib.Core.List.{[]};
+ghost use Prim.Native.Nat.{_+_, _*_, _≤_, _<_, _^_};
+ghost use lib.ListN.{length};
+ghost use Rattle.books.specs.Entry.{usedOf};
+ghost use Rattle.pool.specs.Register.{isHeld};
+ghost use Rattle.state.specs.World.{world};
+ghost use Rattle.rules.specs.Batch.{batch, recordOf};
+ghost use Rattle.views.specs.View.{isValid};
+ghost use Rattle.rules.specs.Batch.{bytesListed};
+ghost use Rattle.rules.specs.Checks.{isRuled, inBody, bitmapNeed, liesWithin, heldAll, columnFault, batchFault, faultOf};
+ghost use Rattle.checks.specs.Checked.{bitRuled, listRuled, bitsWithin, bufferIn, badFrom, faultAt, rowFaultOf, Pooled, Heeded};
+use counts::ByteCount;
+use rules::ColumnRecord;
+use rules::Fault;
+use state::BatchCoalescer;
+use views::Buffer;
+use views::View;
+
+// The start of validity that says that there is none.
+pub const NO_VALIDITY: u32 = 4294967295;
+
+// Column c's record.
+pub fn record_at(records: &[u8], c: u32) -> ColumnRecord
+    requires { ⌜ (c < 16) × (32 * c + 32 ≤ length (now records)) ⌝ }
+    ensures { λ r. ⌜ r ≡ recordOf (batch 0 (now (records .entry)) []) c ⌝ }
+{
+    let at = 32 * (c as usize);
+    ColumnRecord {
+        kind: words::get32(records, at),
+        values: words::get32(records, at + 4),
+        validity: words::get32(records, at + 8),
+        first: words::get32(records, at + 12),
+        list: words::get32(records, at + 16),
+        count: words::get32(records, at + 20),
+        spare: words::get32(records, at + 24),
+        spare2: words::get32(records, at + 28),
+    }
+}
+
+// 4: no validity, no first bit.
+fn bit_ruled(r: ColumnRecord) -> bool
+    ensures { λ x. ⌜ x ≡ bitRuled r ⌝ }
+{
+    if r.validity == NO_VALIDITY {
+        r.first == 0
+    } else {
+        true
+    }
+}
+
+// 4: an empty list begins nowhere, and only views have another.
+fn list_ruled(r: ColumnRecord, kind: u32) -> bool
+    ensures { λ x. ⌜ x ≡ listRuled r kind ⌝ }
+{
+    if r.count == 0 {
+        r.list == 0
+    } else {
+        kinds::is_view(kind)
+    }
+}
+
+// 4: whether the record is of the kind and keeps the rules.
+fn keeps_rules(r: ColumnRecord, kind: u32) -> bool
+    ensures { λ x. ⌜ x ≡ isRuled r kind ⌝ }
+{
+    if r.kind != kind {
+        return false;
+    }
+    if r.spare != 0 {
+        return false;
+    }
+    if r.spare2 != 0 {
+        return false;
+    }
+    if bit_ruled(r) {
+        list_ruled(r, kind)
+    } else {
+        false
+    }
+}
+
+// Whether n bytes from a start on lie in so many; no bytes need no place.
+fn in_body(start: u32, n: u64, size: u64) -> bool
+    requires { ⌜ n < 2 ^ 40 ⌝ }
+    ensures { λ x. ⌜ x ≡ inBody start n size ⌝ }
+{
+    if n == 0 {
+        true
+    } else {
+        (start as u64) + n <= size
+    }
+}
+
+// The bytes of a bitmap that begins with bit `first`, through the byte of the last row's bit.
+fn bitmap_need(first: u32, rows: u32) -> u64
+    requires { ⌜ rows ≤ 65536 ⌝ }
+    ensures { λ n. ⌜ (n ≡ bitmapNeed first rows) × (n < 2 ^ 40) ⌝ }
+{
+    if rows == 0 {
+        0
+    } else {
+        ((first as u64) + (rows as u64) + 7) / 8
+    }
+}
+
+// 5: whether the bitmap, if there is one, lies in a body of so many bytes.
+fn bits_in_body(r: ColumnRecord, rows: u32, size: u64) -> bool
+    requires { ⌜ rows ≤ 65536 ⌝ }
+    ensures { λ x. ⌜ x ≡ bitsWithin r rows size ⌝ }
+{
+    if r.validity == NO_VALIDITY {
+        true
+    } else {
+        in_body(r.validity, bitmap_need(r.first, rows), size)
+    }
+}
+
+// 5: whether values, bitmap and list lie in a body of so many bytes.
+fn lies_in_body(r: ColumnRecord, rows: u32, width: u32, size: u64) -> bool
+    requires { ⌜ (rows ≤ 65536) × (width ≤ 32) ⌝ }
+    ensures { λ x. ⌜ x ≡ liesWithin r rows width size ⌝ }
+{
+    if in_body(r.values, (rows as u64) * (width as u64), size) {
+        if bits_in_body(r, rows, size) {
+            in_body(r.list, 4 * (r.count as u64), size)
+        } else {
+            false
+        }
+    } else {
+        false
+    }
+}
+
+// Whether the caller holds a buffer.
+fn is_held(books: &[u8], k: u32) -> bool
+    requires { ⌜ 4 + 20 * usedOf (now books) ≤ length (now books) ⌝ }
+    ensures { λ x. ⌜ x ≡ isHeld (now (books .entry)) k ⌝ }
+{
+    if k < words::get32(books, 0) {
+        books::entry_at(books, k as usize).hold != 0
+    } else {
+        false
+    }
+}
+
+// 6: whether the caller holds each of the `count` buffers that are listed from `list` of the body on.
+fn all_held(books: &[u8], body: &[u8], list: u32, count: u32) -> bool
+    requires { ⌜ (4 + 20 * usedOf (now books) ≤ length (now books)) × (list + 4 * count ≤ length (now body)) ⌝ }
+    ensures { λ x. ⌜ x ≡ heldAll (now (books .entry)) (now (body .entry)) list count ⌝ }
+{
+    let mut i: u32 = 0;
+    while i < count {
+        let k = words::get32(body, (list as usize) + 4 * (i as usize));
+        if is_held(books, k) {
+            i += 1;
+        } else {
+            return false;
+        }
+    }
+    true
+}
+
+// The buffer of a number.
+fn buffer_of(books: &[u8], k: u32) -> Buffer
+    requires { ⌜ 24 + 20 * k ≤ length (now books) ⌝ }
+    ensures { λ b. ⌜ b ≡ bufferIn (now (books .entry)) k ⌝ }
+{
+    let e = books::entry_at(books, k as usize);
+    Buffer {
+        start: e.start,
+        capacity: ByteCount(e.capacity.0),
+        length: ByteCount(e.length.0),
+    }
+}
+
+// Whether a view is valid against the `count` buffers listed from `list` of the body on, each of which the caller holds.
+fn is_valid(v: View, books: &[u8], pool: &[u8], body: &[u8], list: u32, count: u32) -> bool
+    requires { ⌜ Heeded (now books) (now pool) (now body) list count ⌝ }
+    ensures { λ x. ⌜ x ≡ isValid v (bytesListed (now (books .entry)) (now (pool .entry)) (now (body .entry)) list) count ⌝ }
+{
+    if v.length <= views::MAX_INLINE_VIEW_LEN {
+        views::is_padded(v)
+    } else if v.index < count {
+        let k = words::get32(body, (list as usize) + 4 * (v.index as usize));
+        let b = buffer_of(books, k);
+        views::in_buffer(v, b, pool)
+    } else {
+        false
+    }
+}
+
+// 7: the first of the rows whose view is not valid, and their count where all are.
+fn bad_row(books: &[u8], pool: &[u8], body: &[u8], r: ColumnRecord, rows: u32) -> u32
+    requires { ⌜ (Heeded (now books) (now pool) (now body) (r .list) (r .count)) × (rows ≤ 65536) × (inBody (r .values) (rows * 16) (length (now body)) ≡ true) ⌝ }
+    ensures { λ i. ⌜ i ≡ badFrom (now (books .entry)) (now (pool .entry)) (now (body .entry)) r rows ⌝ }
+{
+    let mut i: u32 = 0;
+    while i < rows {
+        let v = views::view_at(body, (r.values as usize) + (i as usize) * 16);
+        if is_valid(v, books, pool, body, r.list, r.count) {
+            i += 1;
+        } else {
+            return i;
+        }
+    }
+    rows
+}
+
+// A fault, or none: number 0.
+fn fault(number: u32, column: u32, row: u32) -> Fault
+    ensures { λ f. ⌜ f ≡ faultAt number column row ⌝ }
+{
+    Fault {
+        number,
+        column,
+        row,
+    }
+}
+
+// 7 for column c: the first row at fault, where it is a column of views.
+fn row_fault(books: &[u8], pool: &[u8], body: &[u8], r: ColumnRecord, rows: u32, c: u32) -> Fault
+    requires { ⌜ (Heeded (now books) (now pool) (now body) (r .list) (r .count)) × (rows ≤ 65536) × (inBody (r .values) (rows * 16) (length (now body)) ≡ true) ⌝ }
+    ensures { λ f. ⌜ f ≡ rowFaultOf (badFrom (now (books .entry)) (now (pool .entry)) (now (body .entry)) r rows) rows c ⌝ }
+{
+    let i = bad_row(books, pool, body, r, rows);
+    if i < rows {
+        fault(7, c, i)
+    } else {
+        fault(0, 0, 0)
+    }
+}
+
+// The first fault of column c.
+fn column_fault(
+    s: BatchCoalescer,
+    pool: &[u8],
+    books: &[u8],
+    records: &[u8],
+    body: &[u8],
+    rows: u32,
+    c: u32,
+) -> Fault
+    requires { ⌜ (Pooled (now books) (now pool)) × (s .columns ≤ 16) × (c < s .columns) × (rows ≤ 65536) × (32 * s .columns ≤ length (now records)) ⌝ }
+    ensures { λ f. ⌜ f ≡ faultOf (columnFault (world s [] (now (pool .entry)) (now (books .entry))) (batch rows (now (records .entry)) (now (body .entry))) c) ⌝ }
+{
+    let kind = layout::column_of(s, c).kind;
+    let width = layout::width_of(s, c) as u32;
+    let r = record_at(records, c);
+    if keeps_rules(r, kind) {
+        if lies_in_body(r, rows, width, body.len() as u64) {
+            if all_held(books, body, r.list, r.count) {
+                if kinds::is_view(kind) {
+                    row_fault(books, pool, body, r, rows, c)
+                } else {
+                    fault(0, 0, 0)
+                }
+            } else {
+                fault(6, c, 0)
+            }
+        } else {
+            fault(5, c, 0)
+        }
+    } else {
+        fault(4, c, 0)
+    }
+}
+
+// The first fault of a batch: 2, 3, then by columns; number 0 where there is none.
+pub fn batch_fault(
+    s: BatchCoalescer,
+    pool: &[u8],
+    books: &[u8],
+    records: &[u8],
+    body: &[u8],
+    rows: u32,
+) -> Fault
+    requires { ⌜ (Pooled (now books) (now pool)) × (s .columns ≤ 16) × (s .rows .0 ≤ 65536) ⌝ }
+    ensures { λ f. ⌜ f ≡ faultOf (batchFault (world s [] (now (pool .entry)) (now (books .entry))) (batch rows (now (records .entry)) (now (body .entry)))) ⌝ }
+{
+    if records.len() == 32 * (s.columns as usize) {
+        if s.rows.0 < rows {
+            return fault(3, 0, 0);
+        }
+        let mut c: u32 = 0;
+        while c < s.columns {
+            let f = column_fault(s, pool, books, records, body, rows, c);
+            if f.number == 0 {
+                c += 1;
+            } else {
+                return f;
+            }
+        }
+        fault(0, 0, 0)
+    } else {
+        fault(2, 0, 0)
+    }
+}

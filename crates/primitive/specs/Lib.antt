@@ -1,0 +1,3 @@
+-- What copying rows asks, and the laws that the proofs cite.
+pub mod Fits
+pub mod LaidLaws

@@ -1,0 +1,60 @@
+// Values and validity of a column: runs of bytes and of bits put behind the rows of a slot.
+// From arrow-select 60.0.0, src/coalesce/primitive.rs: `InProgressPrimitiveArray::copy_rows`. Columns of views whose bytes need no change
+// use the same two functions. They know places in memory, and no state.
+ghost use mathlib.Core.Path.{_≡_};
+ghost use Prim.Native.Nat.{_+_, _*_, _-_, _≤_, _<_};
+ghost use lib.ListN.{length};
+ghost use Rattle.words.specs.Run.{read, lay};
+ghost use Rattle.bits.specs.Bits.{appended};
+ghost use Rattle.primitive.specs.Fits.{bitsOf, Bitmapped, Valued};
+use rules::ColumnRecord;
+
+// Which rows go where: `count` rows of the batch from row `from` on, behind the first `at` rows of a column that begins at `place` of the
+// slots.
+pub struct Rows {
+    pub column: u32,
+    pub place: usize,
+    pub at: u32,
+    pub from: u32,
+    pub count: u32,
+}
+
+// Their validity, in the `size` bytes of the bitmap from `begin` of the slots on: bits of the body, or ones where there are none.
+pub fn copy_validity(
+    slots: &mut [u8],
+    begin: usize,
+    size: usize,
+    body: &[u8],
+    r: ColumnRecord,
+    p: Rows,
+)
+    requires { ⌜ Bitmapped (length (now slots)) begin size r (length (now body)) p ⌝ }
+    ensures { λ _. ⌜ now (slots .exit) ≡ lay begin (appended (read begin size (now (slots .entry))) (p .at) (bitsOf r (now (body .entry)) (p .from)) (p .count)) (now (slots .entry)) ⌝ }
+{
+    let end = begin + size;
+    let at = p.at as usize;
+    let n = p.count as usize;
+    if r.validity == checks::NO_VALIDITY {
+        bits::append_ones(&mut slots[begin..end], at, n);
+        return;
+    }
+    let first = (r.first as usize) + (p.from as usize);
+    bits::append_bits(
+        &mut slots[begin..end],
+        at,
+        body,
+        r.validity as usize,
+        first,
+        n,
+    );
+}
+
+// Their values, of `width` bytes each, as they stand in the body: null rows' too.
+pub fn copy_values(slots: &mut [u8], body: &[u8], r: ColumnRecord, width: usize, p: Rows)
+    requires { ⌜ Valued (length (now slots)) r (length (now body)) width p ⌝ }
+    ensures { λ _. ⌜ now (slots .exit) ≡ lay (p .place + p .at * width) (read (r .values + p .from * width) (p .count * width) (now (body .entry))) (now (slots .entry)) ⌝ }
+{
+    let to = p.place + (p.at as usize) * width;
+    let from = (r.values as usize) + (p.from as usize) * width;
+    words::put_part(slots, to, body, from, (p.count as usize) * width);
+}

@@ -1,0 +1,23 @@
+-- `ranges::block_in_range` meets its contract.
+use borrow.Author.Needs.{needs}
+use Rattle.ranges.specs.RangeLaws.{block-closed, block-last, block-past}
+use Rattle.ranges.proofs.block_in_range.Statement.{statement}
+use Rattle.ranges.proofs.block_in_range.Tie as tie
+
+enum-told : tie.Need-enum-told
+enum-told c = search needs
+
+enum-known-block : tie.Need-enum-known-block
+enum-known-block c = search needs
+
+returns : tie.Need-returns
+returns c = search needs
+
+returns-2 : tie.Need-returns-2
+returns-2 c = search (block-last, needs)
+
+returns-3 : tie.Need-returns-3
+returns-3 c = search (block-past, needs)
+
+pub block-in-range-spec : {M : Type 1} → statement M
+block-in-range-spec = tie.close (tie.spec enum-told enum-known-block returns returns-2 returns-3)

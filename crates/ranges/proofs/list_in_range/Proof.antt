@@ -1,0 +1,38 @@
+-- `ranges::list_in_range` meets its contract.
+use borrow.Author.Needs.{needs}
+use Rattle.ranges.specs.RangeLaws.{list-none, list-long, list-last, listed-room}
+use Rattle.ranges.proofs.list_in_range.Statement.{statement}
+use Rattle.ranges.proofs.list_in_range.Tie as tie
+
+list-length-requires : tie.Need-list-length-requires
+list-length-requires c κs = search needs
+
+is-views-requires : tie.Need-is-views-requires
+is-views-requires c κs = search needs
+
+list-place-requires : tie.Need-list-place-requires
+list-place-requires c κs = search needs
+
+words-below-requires : tie.Need-words-below-requires
+words-below-requires c κs = search (listed-room, needs)
+
+returns : tie.Need-returns
+returns c = search (list-last, needs)
+
+returns-2 : tie.Need-returns-2
+returns-2 c = search (list-long, needs)
+
+returns-3 : tie.Need-returns-3
+returns-3 c = search (list-none, needs)
+
+pub list-in-range-spec : {M : Type 1} → statement M
+list-in-range-spec =
+    tie.close
+    (tie.spec
+    list-length-requires
+    is-views-requires
+    list-place-requires
+    words-below-requires
+    returns
+    returns-2
+    returns-3)

@@ -1,0 +1,230 @@
+-- The ways out of the test of 14, the turns of its loops, and the places that it reads.
+use Prim.Native.Nat.{ℕ, zero, suc, _+_, _*_, _≤_, _<_}
+use mathlib.Core.Path.{_≡_, refl, sym, _∙_}
+use mathlib.Core.Bool.{Bool, true, false, _&&_}
+use mathlib.Core.List.{List, []}
+use native.Mathlib.Omega.{arith}
+use native.Mathlib.Nat.{mul-le-mul-left}
+use lib.ListN.{length}
+use lib.Dec.{ltb, leb, eqb}
+use borrow.Author.Tests.{lt-ltb, le-ltb, le-leb, lt-leb, ne-eqb}
+use Rattle.search.specs.Every.{every, All, all-none, all-more, all-fails, all-done}
+use Rattle.words.specs.Word.{word32}
+use Rattle.tallies.specs.declared.Tally.{Tally}
+use Rattle.tallies.specs.Tally.{tallyPlace, tallyOf}
+use Rattle.books.specs.Entry.{usedOf}
+use Rattle.pool.specs.Read.{inRange}
+use Rattle.counts.specs.declared.BufferNumber.{BufferNumber}
+use Rattle.state.specs.declared.BatchCoalescer.{BatchCoalescer}
+use Rattle.state.specs.declared.Column.{Column}
+use Rattle.state.specs.declared.OpenBlock.{OpenBlock}
+use Rattle.state.specs.World.{world, columnOf}
+use Rattle.state.specs.Layout.{isViews, listPlace, slotsLength, booksLength, tally, rowsIn, listLength}
+use Rattle.layout.specs.PlaceLaws.{list-room}
+use Rattle.rules.specs.Ranges.{between, blockInRange, columnInRange, listInRange, slotInRange, stateInRange, tested}
+use Rattle.ranges.specs.Tested.{fitsLengths, below}
+
+-- counts lie in the books
+module _ (s : BatchCoalescer) (slot : ℕ) {L : ℕ} where
+  tally-room : (k : ℕ) → slot ≤ s .queue → k ≤ s .columns → L ≡ booksLength s → tallyPlace (tally s slot k) + 4 ≤ L
+  unfolding booksLength tallyPlace
+  tally-room k h l e =
+      let p : (1 + s .columns) * (slot + 1) ≤ (1 + s .columns) * (s .queue + 1) = mul-le-mul-left (1 + s .columns) (omega arith) in
+      omega arith
+
+  pub rows-room : slot ≤ s .queue → L ≡ booksLength s → tallyPlace (tally s slot 0) + 4 ≤ L
+  rows-room h e = tally-room 0 h (omega arith) e
+
+  pub length-room : (c : ℕ) → slot ≤ s .queue → c < s .columns → L ≡ booksLength s → tallyPlace (tally s slot (c + 1)) + 4 ≤ L
+  length-room c h l e = tally-room (c + 1) h (omega arith) e
+
+-- the entries do, and the word before them
+module _ (s : BatchCoalescer) {L : ℕ} (e : L ≡ booksLength s) where
+  pub entries-room : 4 + 20 * s .numbers ≤ L
+  unfolding booksLength
+  entries-room = omega arith
+
+  pub used-room : 0 + 4 ≤ L
+  used-room = omega (arith, entries-room)
+
+-- list_length and rows_in
+pub length-is : (s : BatchCoalescer) (books : List ℕ) (slot c : ℕ) {r : ℕ} → r ≡ tallyOf books (tally s slot (c + 1)) → r ≡ listLength (world s [] [] books) slot c
+unfolding listLength
+length-is s books slot c e = e
+
+pub rows-is : (s : BatchCoalescer) (books : List ℕ) (slot : ℕ) {r : ℕ} → r ≡ tallyOf books (tally s slot 0) → r ≡ rowsIn (world s [] [] books) slot
+unfolding rowsIn
+rows-is s books slot e = e
+
+-- block_in_range
+module _ (used list room : ℕ) {b : OpenBlock} where
+  pub block-closed : b ≡ OpenBlock.Closed → true ≡ blockInRange used list room b
+  block-closed e = rw e
+
+  pub block-last : {k : BufferNumber} → b ≡ OpenBlock.Number k → k .0 < used → ltb list room ≡ blockInRange used list room b
+  block-last {k} e h = rw (e, lt-ltb (k .0) used h)
+
+  pub block-past : {k : BufferNumber} → b ≡ OpenBlock.Number k → used ≤ k .0 → false ≡ blockInRange used list room b
+  block-past {k} e h = rw (e, le-ltb (k .0) used h)
+
+-- column_in_range and columns_in_range
+module _ (s : BatchCoalescer) (books : List ℕ) (c : ℕ) {v : Bool} (p : v ≡ isViews s c) where
+  pub column-other : v ≡ false → true ≡ columnInRange (world s [] [] books) c
+  unfolding columnInRange
+  column-other x = rw (← p, x)
+
+  module _ (x : v ≡ true) {k : Column} {a : Bool} (q : k ≡ columnOf s c) (r : a ≡ between 4096 (k .source .current .0) 1048576) where
+    pub column-size : a ≡ false → false ≡ columnInRange (world s [] [] books) c
+    unfolding columnInRange
+    column-size y = rw (← p, x, ← q, ← r, y)
+
+    pub column-last : {u l : ℕ} {b : Bool} → a ≡ true → u ≡ word32 books 0 → l ≡ listLength (world s [] [] books) (s .place) c → b ≡ blockInRange u l (s .lists) (k .block) → b ≡ columnInRange (world s [] [] books) c
+    unfolding columnInRange usedOf
+    column-last y h i j = rw (← p, x, ← q, ← r, y, ← h, ← i) j
+
+module _ (s : BatchCoalescer) (books : List ℕ) where
+  pub columns-none : All (columnInRange (world s [] [] books)) 0
+  columns-none = all-none (columnInRange (world s [] [] books))
+
+  pub columns-more : (c : ℕ) {r : Bool} → All (columnInRange (world s [] [] books)) c → r ≡ columnInRange (world s [] [] books) c → r ≡ true → All (columnInRange (world s [] [] books)) (c + 1)
+  columns-more c a p x = all-more a (sym p ∙ x)
+
+  pub columns-fail : (c : ℕ) {r : Bool} → c < s .columns → r ≡ columnInRange (world s [] [] books) c → r ≡ false → false ≡ every (columnInRange (world s [] [] books)) (s .columns)
+  columns-fail c l p x = all-fails (columnInRange (world s [] [] books)) (s .columns) c l (sym p ∙ x)
+
+  pub columns-done : (c : ℕ) → All (columnInRange (world s [] [] books)) c → s .columns ≤ c → true ≡ every (columnInRange (world s [] [] books)) (s .columns)
+  columns-done c a l = all-done (s .columns) a l
+
+-- words_below
+unfoldable pub lower : List ℕ → ℕ → ℕ → ℕ → Bool
+lower l at n i = ltb (word32 l (at + 4 * i)) n
+
+module _ (l : List ℕ) (at n : ℕ) where
+  pub lower-none : All (lower l at n) 0
+  lower-none = all-none (lower l at n)
+
+  pub lower-more : (i : ℕ) {w : ℕ} → All (lower l at n) i → w ≡ word32 l (at + 4 * i) → w < n → All (lower l at n) (i + 1)
+  unfolding lower
+  lower-more i {w} a p h = all-more a (rw (← p) (lt-ltb w n h))
+
+  pub lower-fails : (i count : ℕ) {w : ℕ} → i < count → w ≡ word32 l (at + 4 * i) → n ≤ w → false ≡ below l at count n
+  unfolding below lower
+  lower-fails i count {w} h p k = all-fails (lower l at n) count i h (rw (← p) (le-ltb w n k))
+
+  pub lower-done : (i count : ℕ) → All (lower l at n) i → count ≤ i → true ≡ below l at count n
+  unfolding below lower
+  lower-done i count a h = all-done count a h
+
+-- list_in_range
+empty-list : (p : ℕ → Bool) (k : ℕ) → eqb k 0 ≡ (leb k 0 && every p k)
+unfolding every
+empty-list p zero = refl
+empty-list p (suc k) = rw (ne-eqb (suc k) 0 (λ e. absurd (omega arith)), lt-leb (suc k) 0 (omega arith))
+
+module _ (s : BatchCoalescer) (slots books : List ℕ) (slot c : ℕ) {v : Bool} {n : ℕ} (p : n ≡ listLength (world s [] [] books) slot c) (q : v ≡ isViews s c) where
+  -- a column that is not of views
+  pub list-none : v ≡ false → eqb n 0 ≡ listInRange (world s slots [] books) slot c
+  unfolding listInRange listLength
+  list-none x = rw (← q, x, ← p) (empty-list (λ i. ltb (word32 slots (listPlace s slot c + 4 * i)) (s .numbers)) n)
+
+  pub list-long : v ≡ true → s .lists < n → false ≡ listInRange (world s slots [] books) slot c
+  unfolding listInRange listLength
+  list-long x h = rw (← q, x, ← p, lt-leb n (s .lists) h)
+
+  pub list-last : {at : ℕ} {b : Bool} → v ≡ true → n ≤ s .lists → at ≡ listPlace s slot c → b ≡ below slots at n (s .numbers) → b ≡ listInRange (world s slots [] books) slot c
+  unfolding listInRange listLength below
+  list-last x h i j = rw (← q, x, ← p, le-leb n (s .lists) h, ← i) j
+
+pub listed-room : (s : BatchCoalescer) (slot c : ℕ) {v : Bool} {n at L : ℕ} → at ≡ listPlace s slot c → v ≡ isViews s c → v ≡ true → slot ≤ s .queue → c < s .columns → n ≤ s .lists → L ≡ slotsLength s → at + 4 * n ≤ L
+listed-room s slot c {v} {n} e p x h k l m = list-room s slot c n e (sym p ∙ x) h k l m
+
+-- slot_in_range
+module _ (s : BatchCoalescer) (slots books : List ℕ) (slot : ℕ) where
+  pub lists-none : All (listInRange (world s slots [] books) slot) 0
+  lists-none = all-none (listInRange (world s slots [] books) slot)
+
+  pub lists-more : (c : ℕ) {r : Bool} → All (listInRange (world s slots [] books) slot) c → r ≡ listInRange (world s slots [] books) slot c → r ≡ true → All (listInRange (world s slots [] books) slot) (c + 1)
+  lists-more c a p x = all-more a (sym p ∙ x)
+
+  module _ {n : ℕ} (p : n ≡ rowsIn (world s [] [] books) slot) where
+    pub slot-long : s .rows .0 < n → false ≡ slotInRange (world s slots [] books) slot
+    unfolding slotInRange rowsIn
+    slot-long h = rw (← p, lt-leb n (s .rows .0) h)
+
+    module _ (h : n ≤ s .rows .0) (c : ℕ) where
+      pub slot-fails : {r : Bool} → c < s .columns → r ≡ listInRange (world s slots [] books) slot c → r ≡ false → false ≡ slotInRange (world s slots [] books) slot
+      unfolding slotInRange rowsIn
+      slot-fails l q x = rw (← p, le-leb n (s .rows .0) h) (all-fails (listInRange (world s slots [] books) slot) (s .columns) c l (sym q ∙ x))
+
+      pub slot-done : All (listInRange (world s slots [] books) slot) c → s .columns ≤ c → true ≡ slotInRange (world s slots [] books) slot
+      unfolding slotInRange rowsIn
+      slot-done a l = rw (← p, le-leb n (s .rows .0) h) (all-done (s .columns) a l)
+
+-- slots_in_range
+module _ (s : BatchCoalescer) (slots books : List ℕ) where
+  pub slots-none : All (slotInRange (world s slots [] books)) 0
+  slots-none = all-none (slotInRange (world s slots [] books))
+
+  pub slots-more : (i : ℕ) {r : Bool} → All (slotInRange (world s slots [] books)) i → r ≡ slotInRange (world s slots [] books) i → r ≡ true → All (slotInRange (world s slots [] books)) (i + 1)
+  slots-more i a p x = all-more a (sym p ∙ x)
+
+  pub slots-fail : (i : ℕ) {r : Bool} → i ≤ s .queue → r ≡ slotInRange (world s slots [] books) i → r ≡ false → false ≡ every (slotInRange (world s slots [] books)) (s .queue + 1)
+  slots-fail i l p x = all-fails (slotInRange (world s slots [] books)) (s .queue + 1) i (omega arith) (sym p ∙ x)
+
+  pub slots-done : (i : ℕ) → All (slotInRange (world s slots [] books)) i → s .queue < i → true ≡ every (slotInRange (world s slots [] books)) (s .queue + 1)
+  slots-done i a l = all-done (s .queue + 1) a (omega arith)
+
+-- state_in_range
+module _ (s : BatchCoalescer) (slots books : List ℕ) where
+  pub state-buffered : s .target .0 ≤ s .buffered .0 → false ≡ stateInRange (world s slots [] books)
+  unfolding stateInRange
+  state-buffered h = rw (le-ltb (s .buffered .0) (s .target .0) h)
+
+  module _ (h : s .buffered .0 < s .target .0) where
+    pub state-queued : s .queue < s .queued → false ≡ stateInRange (world s slots [] books)
+    unfolding stateInRange
+    state-queued k = rw (lt-ltb (s .buffered .0) (s .target .0) h, lt-leb (s .queued) (s .queue) k)
+
+    module _ (k : s .queued ≤ s .queue) where
+      pub state-place : s .queue < s .place → false ≡ stateInRange (world s slots [] books)
+      unfolding stateInRange
+      state-place l = rw (lt-ltb (s .buffered .0) (s .target .0) h, le-leb (s .queued) (s .queue) k, lt-leb (s .place) (s .queue) l)
+
+      module _ (l : s .place ≤ s .queue) {a : Bool} (p : a ≡ inRange books (s .numbers) (s .pool .0)) where
+        pub state-books : a ≡ false → false ≡ stateInRange (world s slots [] books)
+        unfolding stateInRange
+        state-books x = rw (lt-ltb (s .buffered .0) (s .target .0) h, le-leb (s .queued) (s .queue) k, le-leb (s .place) (s .queue) l, ← p, x)
+
+        module _ (x : a ≡ true) {b : Bool} (q : b ≡ every (columnInRange (world s [] [] books)) (s .columns)) where
+          same : b ≡ every (columnInRange (world s slots [] books)) (s .columns)
+          unfolding columnInRange listLength
+          same = q
+
+          pub state-columns : b ≡ false → false ≡ stateInRange (world s slots [] books)
+          unfolding stateInRange
+          state-columns y =
+              rw (lt-ltb (s .buffered .0) (s .target .0) h, le-leb (s .queued) (s .queue) k, le-leb (s .place) (s .queue) l, ← p, x, ← same, y)
+
+          pub state-last : {r : Bool} → b ≡ true → r ≡ every (slotInRange (world s slots [] books)) (s .queue + 1) → r ≡ stateInRange (world s slots [] books)
+          unfolding stateInRange
+          state-last y z =
+              rw (lt-ltb (s .buffered .0) (s .target .0) h, le-leb (s .queued) (s .queue) k, le-leb (s .place) (s .queue) l, ← p, x, ← same, y) z
+
+-- tested
+module _ (s : BatchCoalescer) (slots pool books : List ℕ) {a : Bool} (p : a ≡ fitsLengths s (length slots) (length pool) (length books)) where
+  pub tested-1 : a ≡ false → 1 ≡ tested (world s slots pool books)
+  unfolding tested fitsLengths Rattle.rules.specs.Ranges.fitsSetUp
+  tested-1 x = rw (← p, x)
+
+  module _ (x : a ≡ true) {b : Bool} (q : b ≡ stateInRange (world s slots [] books)) where
+    same-state : b ≡ stateInRange (world s slots pool books)
+    unfolding stateInRange columnInRange slotInRange listInRange listLength rowsIn
+    same-state = q
+
+    pub tested-14 : b ≡ false → 14 ≡ tested (world s slots pool books)
+    unfolding tested fitsLengths Rattle.rules.specs.Ranges.fitsSetUp
+    tested-14 y = rw (← p, x, ← same-state, y)
+
+    pub tested-0 : b ≡ true → 0 ≡ tested (world s slots pool books)
+    unfolding tested fitsLengths Rattle.rules.specs.Ranges.fitsSetUp
+    tested-0 y = rw (← p, x, ← same-state, y)
