@@ -3,3 +3,4 @@ pub mod Tested
 pub mod BoundsLaws
 pub mod RangeLaws
 pub mod SaysLaws
+pub mod Passed

@@ -1,0 +1,107 @@
+// Pushing and finishing: small batches of rows in, batches of the target size out, in order.
+// From arrow-select 60.0.0, src/coalesce.rs: `BatchCoalescer::push_batch`, `finish_buffered_batch`. The state goes by value; slots, pool and books are
+// lent. A call that refuses, by 01's number, changes nothing.
+ghost use Rattle.state.specs.World.{world};
+ghost use Rattle.rules.specs.Batch.{batch};
+ghost use Rattle.rules.specs.Ranges.{tested};
+ghost use Rattle.coalesce.specs.Push.{verdictOf, Judges, Ready, Judged, Refuses};
+use columns::Step;
+use counts::RowCount;
+use state::BatchCoalescer;
+
+// What the tests of a push say.
+pub enum Verdict {
+    Go,
+    Nothing,
+    Refused(u32),
+}
+
+// The tests of a push in order: 1, 14, then 0 rows, then 2 to 7.
+fn judge(
+    s: BatchCoalescer,
+    slots: &[u8],
+    pool: &[u8],
+    books: &[u8],
+    records: &[u8],
+    body: &[u8],
+    rows: u32,
+) -> Verdict
+    ensures { λ r. ⌜ Judges s (now (slots .entry)) (now (pool .entry)) (now (books .entry)) (batch rows (now (records .entry)) (now (body .entry))) r ⌝ }
+{
+    let number = ranges::tested(s, slots, pool, books);
+    if number == 0 {
+        if rows == 0 {
+            Verdict::Nothing
+        } else {
+            let fault = checks::batch_fault(s, pool, books, records, body, rows);
+            if fault.number == 0 {
+                Verdict::Go
+            } else {
+                Verdict::Refused(fault.number)
+            }
+        }
+    } else {
+        Verdict::Refused(number)
+    }
+}
+
+// A push that passed its tests: the trial first, then the steps.
+fn push_judged(
+    s: BatchCoalescer,
+    slots: &mut [u8],
+    pool: &mut [u8],
+    books: &mut [u8],
+    records: &[u8],
+    body: &[u8],
+    rows: u32,
+) -> Step
+    requires { ⌜ Ready s (now slots) (now pool) (now books) (batch rows (now records) (now body)) ⌝ }
+{
+    let sources = trial::set_sources(s, books, records, body, rows);
+    let number = trial::room_refusal(s, books, records, body, sources, rows);
+    if number == 0 {
+        steps::push_rows(s, slots, pool, books, records, body, sources, rows)
+    } else {
+        Step { state: s, number }
+    }
+}
+
+// push_batch: a batch of rows, its records and its body.
+pub fn push_batch(
+    s: BatchCoalescer,
+    slots: &mut [u8],
+    pool: &mut [u8],
+    books: &mut [u8],
+    records: &[u8],
+    body: &[u8],
+    rows: RowCount,
+) -> Step
+    ensures { λ r. ⌜ Judged (verdictOf (world s (now (slots .entry)) (now (pool .entry)) (now (books .entry))) (batch (rows .0) (now (records .entry)) (now (body .entry)))) (world s (now (slots .entry)) (now (pool .entry)) (now (books .entry))) r (now (slots .exit)) (now (pool .exit)) (now (books .exit)) ⌝ }
+{
+    let verdict = judge(s, slots, pool, books, records, body, rows.0);
+    match verdict {
+        Verdict::Go => push_judged(s, slots, pool, books, records, body, rows.0),
+        Verdict::Nothing => Step {
+            state: s,
+            number: 0,
+        },
+        Verdict::Refused(number) => Step { state: s, number },
+    }
+}
+
+// finish_buffered_batch.
+pub fn finish_buffered_batch(
+    s: BatchCoalescer,
+    slots: &mut [u8],
+    pool: &[u8],
+    books: &mut [u8],
+) -> Step
+    ensures { λ r. ⌜ Refuses (tested (world s (now (slots .entry)) (now (pool .entry)) (now (books .entry)))) (world s (now (slots .entry)) (now (pool .entry)) (now (books .entry))) r (now (slots .exit)) (now (pool .entry)) (now (books .exit)) ⌝ }
+{
+    let number = ranges::tested(s, slots, pool, books);
+    if number == 0 {
+        steps::finish(s, slots, books)
+    } else {
+        Step { state: s, number }
+    }
+}

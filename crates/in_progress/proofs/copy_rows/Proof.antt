@@ -1,0 +1,97 @@
+-- `in_progress::copy_rows` meets its contract.
+use native.Mathlib.Omega.{arith}
+use borrow.Author.Needs.{needs}
+use Rattle.layout.specs.ExitLaws.{values-small}
+use Rattle.in_progress.specs.RowLaws.{rows-bitmapped, rows-valued, rows-copied, rows-any, rows-attached, rows-views, rows-ideal, rows-compacted}
+use Rattle.in_progress.specs.AskLaws.{part-column, part-few, part-place}
+use Rattle.in_progress.proofs.copy_rows.Statement.{statement}
+use Rattle.in_progress.proofs.copy_rows.Tie as tie
+
+width-of-requires : tie.Need-width-of-requires
+width-of-requires c κs = part-column (c .before .before .before .before .before .pre .0)
+
+cast-begin : tie.Need-cast-begin
+cast-begin c = search needs
+
+mul-begin : tie.Need-mul-begin
+mul-begin c = omega (arith, values-small (c .before .before .before .before .before .before .before .args .s .rows .0) (c .before .width-of .result) (part-few (c .before .before .before .before .before .before .before .pre .0) .rows) (c .before .width-of .ensures .1))
+
+add-begin : tie.Need-add-begin
+add-begin c = omega (arith, values-small (c .before .before .before .before .before .before .before .before .args .s .rows .0) (c .before .before .width-of .result) (part-few (c .before .before .before .before .before .before .before .before .pre .0) .rows) (c .before .before .width-of .ensures .1), part-place (c .before .before .before .before .before .before .before .before .pre .0))
+
+bitmap-bytes-requires : tie.Need-bitmap-bytes-requires
+bitmap-bytes-requires c κs = part-few (c .before .before .before .before .before .before .before .before .pre .0)
+
+copy-validity-requires : tie.Need-copy-validity-requires
+copy-validity-requires c κs = rows-bitmapped (c .before .before .before .before .before .before .before .before .before .before .pre .0) (c .before .before .before .before .width-of .ensures .0) (c .before .before .before .before .width-of .ensures .1) (values-small _ _ (part-few (c .before .before .before .before .before .before .before .before .before .before .pre .0) .rows) (c .before .before .before .before .width-of .ensures .1)) (c .before .bitmap-bytes .ensures .0) (c .before .bitmap-bytes .ensures .1)
+
+enum-told : tie.Need-enum-told
+enum-told c = search needs
+
+copy-values-requires : tie.Need-copy-values-requires
+copy-values-requires c κs = rows-valued (c .before .before .before .before .before .before .before .before .before .before .before .before .before .before .before .before .pre .0) (c .before .before .before .before .before .before .before .before .before .before .width-of .ensures .0) (c .before .before .before .before .before .before .before .bitmap-bytes .ensures .0) (c .before .before .before .before .before .copy-validity .ensures) (c .before .before .before .before .before .before .before .before .before .before .width-of .ensures .1)
+
+enum-told-2 : tie.Need-enum-told-2
+enum-told-2 c = search needs
+
+attach-requires : tie.Need-attach-requires
+attach-requires c κs = rows-any (c .before .before .before .before .before .before .before .before .before .before .before .before .before .before .before .before .before .pre .0) (c .before .before .before .before .before .before .before .before .before .before .before .width-of .ensures .0) (c .before .before .before .before .before .before .before .before .bitmap-bytes .ensures .0) (c .before .before .before .before .before .before .copy-validity .ensures) (c .before .before .before .before .before .before .before .before .before .before .before .before .before .before .before .before .before .pre .1) (search needs)
+
+enum-told-3 : tie.Need-enum-told-3
+enum-told-3 c = search needs
+
+compact-requires : tie.Need-compact-requires
+compact-requires c κs = (rows-views (c .before .before .before .before .before .before .before .before .before .before .before .before .before .before .before .before .before .before .before .pre .0) (c .before .before .before .before .before .before .before .before .before .before .before .before .before .width-of .ensures .0) (c .before .before .before .before .before .before .before .before .before .before .bitmap-bytes .ensures .0) (c .before .before .before .before .before .before .before .before .copy-validity .ensures) (c .before .before .before .before .before .before .before .before .before .before .before .before .before .before .before .before .before .before .before .pre .1) (search needs), rows-ideal (c .before .before .before .before .before .before .before .before .before .before .before .before .before .before .before .before .before .before .before .pre .0) (c .before .before .before .before .before .before .before .before .before .before .before .before .before .width-of .ensures .0) (c .before .before .before .before .before .before .before .before .before .before .bitmap-bytes .ensures .0) (c .before .before .before .before .before .before .before .before .copy-validity .ensures) (c .before .before .before .before .before .before .before .before .before .before .before .before .before .before .before .before .before .before .before .pre .1) (search needs))
+
+same-length : tie.Need-same-length
+same-length c = search needs
+
+returns : tie.Need-returns
+returns c = rows-copied (c .before .before .before .before .before .before .before .before .before .before .before .before .before .before .before .before .before .before .before .pre .0) (c .before .before .before .before .before .before .before .before .before .before .before .before .before .width-of .ensures .0) (c .before .before .before .before .before .before .before .before .before .before .bitmap-bytes .ensures .0) (c .before .before .before .before .before .before .before .before .copy-validity .ensures) (search needs) (c .before .before .copy-values .ensures)
+
+same-length-2 : tie.Need-same-length-2
+same-length-2 c = search needs
+
+same-length-3 : tie.Need-same-length-3
+same-length-3 c = search needs
+
+returns-2 : tie.Need-returns-2
+returns-2 c = rows-attached (c .before .before .before .before .before .before .before .before .before .before .before .before .before .before .before .before .before .before .before .before .before .before .pre .0) (c .before .before .before .before .before .before .before .before .before .before .before .before .before .before .before .before .width-of .ensures .0) (c .before .before .before .before .before .before .before .before .before .before .before .before .before .bitmap-bytes .ensures .0) (c .before .before .before .before .before .before .before .before .before .before .before .copy-validity .ensures) (c .before .before .before .before .before .before .before .before .before .before .before .before .before .before .before .before .before .before .before .before .before .before .pre .1) (search needs) (c .before .before .before .before .attach .ensures)
+
+same-length-4 : tie.Need-same-length-4
+same-length-4 c = search needs
+
+same-length-5 : tie.Need-same-length-5
+same-length-5 c = search needs
+
+same-length-6 : tie.Need-same-length-6
+same-length-6 c = search needs
+
+returns-3 : tie.Need-returns-3
+returns-3 c = rows-compacted (c .before .before .before .before .before .before .before .before .before .before .before .before .before .before .before .before .before .before .before .before .before .before .before .before .before .before .pre .0) (c .before .before .before .before .before .before .before .before .before .before .before .before .before .before .before .before .before .before .before .before .width-of .ensures .0) (c .before .before .before .before .before .before .before .before .before .before .before .before .before .before .before .before .before .bitmap-bytes .ensures .0) (c .before .before .before .before .before .before .before .before .before .before .before .before .before .before .before .copy-validity .ensures) (c .before .before .before .before .before .before .before .before .before .before .before .before .before .before .before .before .before .before .before .before .before .before .before .before .before .before .pre .1) (search needs) (c .before .before .before .before .before .before .compact .ensures)
+
+pub copy-rows-spec : {M : Type 1} → statement M
+copy-rows-spec =
+    tie.close
+    (tie.spec
+    width-of-requires
+    cast-begin
+    mul-begin
+    add-begin
+    bitmap-bytes-requires
+    copy-validity-requires
+    enum-told
+    copy-values-requires
+    enum-told-2
+    attach-requires
+    enum-told-3
+    compact-requires
+    same-length
+    returns
+    same-length-2
+    same-length-3
+    returns-2
+    same-length-4
+    same-length-5
+    same-length-6
+    returns-3)

@@ -1,0 +1,95 @@
+-- What callers have of a part of a column: that it may be copied, that its list may be attached, and which definition it is.
+use Prim.Native.Nat.{ℕ, _+_, _≤_, _<_}
+use mathlib.Core.Path.{_≡_, sym, _∙_, ap}
+use mathlib.Core.Bool.{true, cond}
+use mathlib.Core.List.{List}
+use native.Mathlib.Omega.{arith}
+use lib.ListN.{length}
+use Rattle.byte_view.specs.declared.Source.{Source}
+use Rattle.primitive.specs.declared.Rows.{Rows}
+use Rattle.rules.specs.declared.ColumnRecord.{ColumnRecord}
+use Rattle.rules.specs.declared.Way.{Way}
+use Rattle.rules.specs.Batch.{Batch, recordOf, way, ideal}
+use Rattle.rules.specs.Views.{columnCopied}
+use Rattle.rules.specs.Stays.{SameSetUp}
+use Rattle.rules.specs.SameLaws.{same-views, same-ideal}
+use Rattle.state.specs.declared.BatchCoalescer.{BatchCoalescer}
+use Rattle.state.specs.World.{World, world}
+use Rattle.state.specs.Layout.{isViews, valuesPlace, slotsLength, listLength}
+use Rattle.columns.specs.Column.{sourceFor}
+use Rattle.columns.specs.Pushing.{Running}
+use Rattle.columns.specs.SourceLaws.{source-way, source-ideal, list-same}
+use Rattle.going.specs.Run.{Run, Readable}
+use Rattle.going.specs.TestedLaws.{bounds-say}
+use Rattle.going.specs.AttachGoes.{listed-length, listed-used}
+use Rattle.going.specs.Firm.{Firm}
+use Rattle.in_progress.specs.Part.{Booked, Ready, Part, Listable, Decided, copiedBy}
+
+-- n rows of column c of the batch from row `from` on, behind those buffered
+abbrev pub rowsOf : World → ℕ → ℕ → ℕ → Rows
+rowsOf w c from n =
+    record { column = c; place = valuesPlace (w .state) (w .state .place) c; at = w .state .buffered .0; from = from; count = n }
+
+-- they may be copied
+pub part-of : {w : World} {b : Batch} {r : ColumnRecord} {p : Rows} → Run w → Readable w b → p .column < w .state .columns → r ≡ recordOf b (p .column) → p .place ≡ valuesPlace (w .state) (w .state .place) (p .column) → p .from + p .count ≤ b .rows → p .at + p .count ≤ w .state .rows .0 → Part w b r p
+part-of run reads h e q t m =
+    record { run = run; reads = reads; column = h; recorded = e; placed = q; there = t; room = m }
+
+-- ---- what was decided at the beginning of the push, w₀
+
+module _ (w₀ w : World) (b : Batch) (c : ℕ) (e : SameSetUp (w₀ .state) (w .state)) {x : Source} (q : x ≡ sourceFor w₀ b c) where
+  pub decided-at : Decided w b c x
+  decided-at =
+      record {
+        ideal-is = λ y.
+            ap (λ (z : Source). z .ideal .0) q ∙ source-ideal w₀ b c (sym (same-views e c) ∙ y) ∙ sym (same-ideal w₀ w b e c);
+        plain = λ y. way-at ∙ rw (y);
+      }
+    where
+      way-at : x .way ≡ cond (isViews (w .state) c) (way w₀ b c) Way.Copied
+      way-at = ap (λ (z : Source). z .way) q ∙ source-way w₀ b c ∙ rw (same-views e c)
+
+  -- and the rows copied so are those of the definition
+  pub copied-is : (p : Rows) → p .column ≡ c → p .at ≡ w .state .buffered .0 → copiedBy w b p (x .way) ≡ columnCopied w₀ w b c (p .from) (p .count)
+  unfolding copiedBy columnCopied
+  copied-is p f g =
+      let h : x .way ≡ cond (isViews (w .state) c) (way w₀ b c) Way.Copied = ap (λ (z : Source). z .way) q ∙ source-way w₀ b c ∙ rw (same-views e c) in
+      rw (f, g, h)
+
+-- ---- state and books in order
+
+pub running-booked : {s : BatchCoalescer} {books : List ℕ} → Running s books → Booked s books
+running-booked r = record { run = r .run }
+
+pub ready-at : {s : BatchCoalescer} {slots books : List ℕ} {c : ℕ} → Booked s books → length slots ≡ slotsLength s → c < s .columns → isViews s c ≡ true → Ready s slots books c
+ready-at b l h y = record { booked = b; slots-are = l; column = h; views = y }
+
+-- ---- a list that may be attached: of a batch queued whole too, where an open block need not have a place any more
+
+pub listable-at : {s : BatchCoalescer} {slots pool books : List ℕ} {b : Batch} {c : ℕ} → Firm (world s slots pool books) → Readable (world s slots pool books) b → c < s .columns → listLength (world s slots pool books) (s .place) c + recordOf b c .count ≤ s .lists → Listable s slots books b c
+listable-at {s} {slots} {pool} {books} {b} {c} f x h l =
+    record {
+      few =
+          record {
+            rows = bounds-say s (f .fit .bounds) .rows;
+            queue = bounds-say s (f .fit .bounds) .queue;
+            columns = bounds-say s (f .fit .bounds) .columns;
+            lists = bounds-say s (f .fit .bounds) .lists;
+            numbers = bounds-say s (f .fit .bounds) .numbers;
+          };
+      place = f .fit .place;
+      column = h;
+      slots-are = f .fit .slots-are;
+      books-are = f .fit .books-are;
+      inside = x .columns c h .listed;
+      listed =
+          record {
+            room = f .books .roomy .room;
+            used = f .books .used;
+            list-room = omega (arith, listed-length b c (x .columns c h));
+            below = λ i j. omega (arith, listed-used b c (x .columns c h) i j, f .books .used);
+          };
+      room = omega (arith, list-same s slots pool books c (s .place));
+      plain = x .columns c h .plain;
+      empty = λ y. list-same s slots pool books c (s .place) ∙ f .none (s .place) c (f .fit .place) h y;
+    }

@@ -1,0 +1,449 @@
+// One column of the slot being filled: a part of a batch copied into it, blocks opened and closed, lists attached.
+// From arrow-select 60.0.0, src/coalesce/byte_view.rs: `InProgressByteViewArray`: `copy_rows`, `finish_current`, and
+// `BufferSource::next_buffer`; src/coalesce/primitive.rs: `copy_rows`.
+ghost use mathlib.Core.Path.{_≡_};
+ghost use mathlib.Core.Bool.{true};
+ghost use mathlib.Core.List.{[]};
+ghost use Prim.Native.Nat.{_+_, _*_, _-_, _≤_, _<_, _^_};
+ghost use lib.ListN.{length};
+ghost use Rattle.words.specs.Word.{withWord32};
+ghost use Rattle.tallies.specs.Tally.{withTally};
+ghost use Rattle.sound.specs.Change.{withLength};
+ghost use Rattle.state.specs.declared.OpenBlock.{OpenBlock};
+ghost use Rattle.state.specs.World.{world, columnOf};
+ghost use Rattle.state.specs.Layout.{isViews, listPlace, listLength, slotsLength, booksLength, tally};
+ghost use Rattle.layout.specs.Few.{Few};
+ghost use Rattle.rules.specs.Batch.{batch, recordOf};
+ghost use Rattle.rules.specs.Steps.{ok};
+ghost use Rattle.rules.specs.Views.{closed, partCompacted};
+ghost use Rattle.columns.specs.Step.{Steps};
+ghost use Rattle.in_progress.specs.Part.{Booked, Ready, Part, ViewPart, AnyPart, Fits, Walks, Listable, Decided, firstRows, rowsBehind, longOf, compacting, openedFor, walkedOn, copiedBy, Closes, OpensNext, Opens, Attaches, AttachesPart, Raises};
+use byte_view::Copying;
+use byte_view::Source;
+use columns::Step;
+use counts::BufferNumber;
+use counts::ByteSum;
+use primitive::Rows;
+use room::Chosen;
+use rules::ColumnRecord;
+use rules::Way;
+use state::BatchCoalescer;
+use state::OpenBlock;
+
+// A number at the end of the list of column c of the slot being filled.
+fn list_number(s: BatchCoalescer, slots: &mut [u8], books: &mut [u8], c: u32, number: BufferNumber)
+    requires { ⌜ (Few s) × (s .place ≤ s .queue) × (c < s .columns) × (isViews s c ≡ true) × (length (now slots) ≡ slotsLength s) × (length (now books) ≡ booksLength s)
+        × (listLength (world s [] [] (now books)) (s .place) c < s .lists) ⌝ }
+    ensures { λ _. ⌜ (now (slots .exit) ≡ withWord32 (now (slots .entry)) (listPlace s (s .place) c + 4 * listLength (world s [] [] (now (books .entry))) (s .place) c) (number .0))
+        × (now (books .exit) ≡ withTally (now (books .entry)) (tally s (s .place) (c + 1)) (listLength (world s [] [] (now (books .entry))) (s .place) c + 1)) ⌝ }
+{
+    let n = ranges::list_length(s, books, s.place, c);
+    let place = layout::list_place(s, s.place, c);
+    words::put32(slots, place + 4 * (n as usize), number.0);
+    columns::put_list_length(s, books, c, n + 1);
+}
+
+// finish_current: the open block joins its list, if there is one.
+pub fn finish_current(
+    s: BatchCoalescer,
+    slots: &mut [u8],
+    books: &mut [u8],
+    c: u32,
+) -> BatchCoalescer
+    requires { ⌜ Ready s (now slots) (now books) c ⌝ }
+    ensures { λ r. ⌜ Closes s (now (slots .entry)) (now (books .entry)) c r (now (slots .exit)) (now (books .exit)) ⌝ }
+{
+    let column = layout::column_of(s, c);
+    let block = column.block;
+    match block {
+        OpenBlock::Closed => s,
+        OpenBlock::Number(k) => {
+            list_number(s, slots, books, c, k);
+            columns::with_column(s, c, column.source, OpenBlock::Closed)
+        }
+    }
+}
+
+// A block for at least min bytes, where its list has a place. 11 and 12.
+fn open_next(s: BatchCoalescer, books: &mut [u8], c: u32, min: ByteSum) -> Step
+    requires { ⌜ (Booked s (now books)) × (c < s .columns) × (isViews s c ≡ true) ⌝ }
+    ensures { λ r. ⌜ OpensNext s (now (books .entry)) c min r (now (books .exit)) ⌝ }
+{
+    let column = layout::column_of(s, c);
+    let source = column.source;
+    let next = source.next_size(min);
+    let chosen = room::open_block(books, s.numbers, s.pool.0, next.size);
+    match chosen {
+        Chosen::Refused(number) => Step { state: s, number },
+        Chosen::At(r) => {
+            let number = r.number;
+            let kept = next.source;
+            let t = columns::with_column(s, c, kept, OpenBlock::Number(number));
+            Step {
+                state: t,
+                number: 0,
+            }
+        }
+    }
+}
+
+// next_buffer: a block for at least min bytes. 10, then 11 and 12.
+fn next_buffer(s: BatchCoalescer, books: &mut [u8], c: u32, min: ByteSum) -> Step
+    requires { ⌜ (Booked s (now books)) × (c < s .columns) × (isViews s c ≡ true) ⌝ }
+    ensures { λ r. ⌜ Opens s (now (books .entry)) c (min .0) r (now (books .exit)) ⌝ }
+{
+    let n = ranges::list_length(s, books, s.place, c);
+    if n < s.lists {
+        open_next(s, books, c, min)
+    } else {
+        Step {
+            state: s,
+            number: 10,
+        }
+    }
+}
+
+// The length of a buffer set.
+fn put_length(books: &mut [u8], i: u32, n: u32)
+    requires { ⌜ 24 + 20 * i ≤ length (now books) ⌝ }
+    ensures { λ _. ⌜ now (books .exit) ≡ withLength (now (books .entry)) i n ⌝ }
+{
+    words::put32(books, 12 + 20 * (i as usize), n);
+}
+
+// The views of a part, with their bytes in block k.
+fn copy_strings(
+    s: BatchCoalescer,
+    slots: &mut [u8],
+    pool: &mut [u8],
+    books: &mut [u8],
+    records: &[u8],
+    body: &[u8],
+    rows: u32,
+    r: ColumnRecord,
+    p: Rows,
+    k: BufferNumber,
+)
+    requires { ⌜ (Fits (world s (now slots) (now pool) (now books)) (batch rows (now records) (now body)) r p) × (columnOf s (p .column) .block ≡ OpenBlock.Number k) ⌝ }
+    ensures { λ _. ⌜ compacting (world s (now (slots .entry)) (now (pool .entry)) (now (books .entry))) (batch rows (now (records .entry)) (now (body .entry))) p
+        ≡ ok (world s (now (slots .exit)) (now (pool .exit)) (now (books .exit))) ⌝ }
+{
+    let block = books::entry_at(books, k.0 as usize);
+    let index = ranges::list_length(s, books, s.place, p.column);
+    let j = Copying {
+        from: (r.values as usize) + (p.from as usize) * 16,
+        list: r.list as usize,
+        count: r.count,
+        to: p.place + (p.at as usize) * 16,
+        index,
+        start: block.start,
+    };
+    let filled = byte_view::append_views_and_copy_strings(
+        slots,
+        pool,
+        books,
+        body,
+        j,
+        p.count,
+        block.length.0,
+    );
+    put_length(books, k.0, filled);
+}
+
+// The same into the open block, whichever it is.
+fn copy_into_open(
+    s: BatchCoalescer,
+    slots: &mut [u8],
+    pool: &mut [u8],
+    books: &mut [u8],
+    records: &[u8],
+    body: &[u8],
+    rows: u32,
+    r: ColumnRecord,
+    p: Rows,
+)
+    requires { ⌜ Fits (world s (now slots) (now pool) (now books)) (batch rows (now records) (now body)) r p ⌝ }
+    ensures { λ _. ⌜ compacting (world s (now (slots .entry)) (now (pool .entry)) (now (books .entry))) (batch rows (now (records .entry)) (now (body .entry))) p
+        ≡ ok (world s (now (slots .exit)) (now (pool .exit)) (now (books .exit))) ⌝ }
+{
+    let column = layout::column_of(s, p.column);
+    let block = column.block;
+    match block {
+        OpenBlock::Closed => {}
+        OpenBlock::Number(k) => {
+            copy_strings(s, slots, pool, books, records, body, rows, r, p, k)
+        }
+    }
+}
+
+// A block opened for at least min bytes, and the part copied into it.
+fn open_and_copy(
+    s: BatchCoalescer,
+    slots: &mut [u8],
+    pool: &mut [u8],
+    books: &mut [u8],
+    records: &[u8],
+    body: &[u8],
+    rows: u32,
+    r: ColumnRecord,
+    p: Rows,
+    min: ByteSum,
+) -> Step
+    requires { ⌜ (ViewPart (world s (now slots) (now pool) (now books)) (batch rows (now records) (now body)) r p)
+        × (longOf (world s (now slots) (now pool) (now books)) (batch rows (now records) (now body)) p ≤ min .0) ⌝ }
+    ensures { λ q. ⌜ Steps (openedFor (world s (now (slots .entry)) (now (pool .entry)) (now (books .entry))) (batch rows (now (records .entry)) (now (body .entry))) (min .0) p)
+        q (now (slots .exit)) (now (pool .exit)) (now (books .exit)) ⌝ }
+{
+    let next = next_buffer(s, books, p.column, min);
+    if next.number == 0 {
+        let t = next.state;
+        copy_into_open(t, slots, pool, books, records, body, rows, r, p);
+        Step {
+            state: t,
+            number: 0,
+        }
+    } else {
+        next
+    }
+}
+
+// The open block closed, then the same.
+fn move_and_copy(
+    s: BatchCoalescer,
+    slots: &mut [u8],
+    pool: &mut [u8],
+    books: &mut [u8],
+    records: &[u8],
+    body: &[u8],
+    rows: u32,
+    r: ColumnRecord,
+    p: Rows,
+    min: ByteSum,
+) -> Step
+    requires { ⌜ (ViewPart (world s (now slots) (now pool) (now books)) (batch rows (now records) (now body)) r p)
+        × (longOf (world s (now slots) (now pool) (now books)) (batch rows (now records) (now body)) p ≤ min .0) ⌝ }
+    ensures { λ q. ⌜ Steps (openedFor (closed (world s (now (slots .entry)) (now (pool .entry)) (now (books .entry))) (p .column)) (batch rows (now (records .entry)) (now (body .entry))) (min .0) p)
+        q (now (slots .exit)) (now (pool .exit)) (now (books .exit)) ⌝ }
+{
+    let t = finish_current(s, slots, books, p.column);
+    open_and_copy(t, slots, pool, books, records, body, rows, r, p, min)
+}
+
+// The first k rows of a part, and those behind them.
+fn first_rows(p: Rows, k: u32) -> Rows
+    ensures { λ q. ⌜ q ≡ firstRows p k ⌝ }
+{
+    Rows {
+        column: p.column,
+        place: p.place,
+        at: p.at,
+        from: p.from,
+        count: k,
+    }
+}
+
+fn rows_behind(p: Rows, k: u32) -> Rows
+    requires { ⌜ (k ≤ p .count) × (p .at + p .count ≤ 65536) × (p .from + p .count ≤ 65536) ⌝ }
+    ensures { λ q. ⌜ q ≡ rowsBehind p k ⌝ }
+{
+    Rows {
+        column: p.column,
+        place: p.place,
+        at: p.at + k,
+        from: p.from + k,
+        count: p.count - k,
+    }
+}
+
+// The walk: what the open block takes, then another block for the remainder, even when that is empty.
+fn walk_on(
+    s: BatchCoalescer,
+    slots: &mut [u8],
+    pool: &mut [u8],
+    books: &mut [u8],
+    records: &[u8],
+    body: &[u8],
+    rows: u32,
+    r: ColumnRecord,
+    p: Rows,
+    ideal: ByteSum,
+    rest: ByteSum,
+) -> Step
+    requires { ⌜ Walks (world s (now slots) (now pool) (now books)) (batch rows (now records) (now body)) r p (ideal .0) (rest .0) ⌝ }
+    ensures { λ q. ⌜ Steps (walkedOn (world s (now (slots .entry)) (now (pool .entry)) (now (books .entry))) (batch rows (now (records .entry)) (now (body .entry))) (ideal .0) (rest .0) p)
+        q (now (slots .exit)) (now (pool .exit)) (now (books .exit)) ⌝ }
+{
+    let from = (r.values as usize) + (p.from as usize) * 16;
+    let walked = byte_view::walk(body, from, p.count, rest);
+    let first = first_rows(p, walked.rows);
+    let behind = rows_behind(p, walked.rows);
+    copy_into_open(s, slots, pool, books, records, body, rows, r, first);
+    let left = ByteSum(ideal.0 - walked.bytes.0);
+    move_and_copy(s, slots, pool, books, records, body, rows, r, behind, left)
+}
+
+// A part compacted: into a new block, into the open one, or into both.
+fn compact(
+    s: BatchCoalescer,
+    slots: &mut [u8],
+    pool: &mut [u8],
+    books: &mut [u8],
+    records: &[u8],
+    body: &[u8],
+    rows: u32,
+    r: ColumnRecord,
+    p: Rows,
+    ideal: ByteSum,
+) -> Step
+    requires { ⌜ (ViewPart (world s (now slots) (now pool) (now books)) (batch rows (now records) (now body)) r p)
+        × (ideal .0 ≡ Rattle.rules.specs.Batch.ideal (world s (now slots) (now pool) (now books)) (batch rows (now records) (now body)) (p .column)) ⌝ }
+    ensures { λ q. ⌜ Steps (partCompacted (world s (now (slots .entry)) (now (pool .entry)) (now (books .entry))) (batch rows (now (records .entry)) (now (body .entry))) (p .column) (p .at) (p .from) (p .count))
+        q (now (slots .exit)) (now (pool .exit)) (now (books .exit)) ⌝ }
+{
+    let column = layout::column_of(s, p.column);
+    let block = column.block;
+    match block {
+        OpenBlock::Closed => {
+            open_and_copy(s, slots, pool, books, records, body, rows, r, p, ideal)
+        }
+        OpenBlock::Number(k) => {
+            let rest = columns::rest_of(books, k);
+            if ideal.0 <= rest.0 {
+                copy_strings(s, slots, pool, books, records, body, rows, r, p, k);
+                Step {
+                    state: s,
+                    number: 0,
+                }
+            } else {
+                walk_on(
+                    s,
+                    slots,
+                    pool,
+                    books,
+                    records,
+                    body,
+                    rows,
+                    r,
+                    p,
+                    ideal,
+                    rest,
+                )
+            }
+        }
+    }
+}
+
+// The whole list of a record behind what is listed in column c of the slot being filled.
+pub fn append_list(
+    s: BatchCoalescer,
+    slots: &mut [u8],
+    books: &mut [u8],
+    records: &[u8],
+    body: &[u8],
+    rows: u32,
+    r: ColumnRecord,
+    c: u32,
+)
+    requires { ⌜ (Listable s (now slots) (now books) (batch rows (now records) (now body)) c) × (r ≡ recordOf (batch rows (now records) (now body)) c) ⌝ }
+    ensures { λ _. ⌜ Attaches s (now (slots .entry)) (now (books .entry)) (batch rows (now (records .entry)) (now (body .entry))) c (now (slots .exit)) (now (books .exit)) ⌝ }
+{
+    let n = ranges::list_length(s, books, s.place, c);
+    let place = layout::list_place(s, s.place, c);
+    let from = r.list as usize;
+    let size = 4 * (r.count as usize);
+    let end = from + size;
+    words::put_part(slots, place + 4 * (n as usize), body, from, size);
+    listings::list_all(books, s.numbers, &body[from..end], r.count as usize);
+    columns::put_list_length(s, books, c, n + r.count);
+}
+
+// The list of a part's column behind k numbers, and the part's views with k added to their index.
+fn attach_list(
+    s: BatchCoalescer,
+    slots: &mut [u8],
+    books: &mut [u8],
+    records: &[u8],
+    body: &[u8],
+    rows: u32,
+    r: ColumnRecord,
+    p: Rows,
+    k: u32,
+)
+    requires { ⌜ (AnyPart s (now slots) (now books) (batch rows (now records) (now body)) r p) × (k + r .count ≤ s .lists)
+        × (k ≡ listLength (world s [] [] (now books)) (s .place) (p .column)) ⌝ }
+    ensures { λ _. ⌜ Raises s (now (slots .entry)) (now (books .entry)) (batch rows (now (records .entry)) (now (body .entry))) k p (now (slots .exit)) (now (books .exit)) ⌝ }
+{
+    append_list(s, slots, books, records, body, rows, r, p.column);
+    let to = p.place + (p.at as usize) * 16;
+    let from = (r.values as usize) + (p.from as usize) * 16;
+    byte_view::append_views_and_update_buffer_index(slots, to, body, from, p.count, k);
+}
+
+// A part attached: the open block closed, the list behind it, and the views with their index raised. 10, the block counted.
+fn attach(
+    s: BatchCoalescer,
+    slots: &mut [u8],
+    books: &mut [u8],
+    records: &[u8],
+    body: &[u8],
+    rows: u32,
+    r: ColumnRecord,
+    p: Rows,
+) -> Step
+    requires { ⌜ AnyPart s (now slots) (now books) (batch rows (now records) (now body)) r p ⌝ }
+    ensures { λ q. ⌜ AttachesPart s (now (slots .entry)) (now (books .entry)) (batch rows (now (records .entry)) (now (body .entry))) p q (now (slots .exit)) (now (books .exit)) ⌝ }
+{
+    let n = columns::list_closed(s, books, p.column);
+    if (n as u64) + (r.count as u64) <= (s.lists as u64) {
+        let t = finish_current(s, slots, books, p.column);
+        attach_list(t, slots, books, records, body, rows, r, p, n);
+        Step {
+            state: t,
+            number: 0,
+        }
+    } else {
+        Step {
+            state: s,
+            number: 10,
+        }
+    }
+}
+
+// copy_rows: a part of a batch into column c of the slot being filled, the way that was decided.
+pub fn copy_rows(
+    s: BatchCoalescer,
+    slots: &mut [u8],
+    pool: &mut [u8],
+    books: &mut [u8],
+    records: &[u8],
+    body: &[u8],
+    rows: u32,
+    r: ColumnRecord,
+    source: Source,
+    p: Rows,
+) -> Step
+    requires { ⌜ (Part (world s (now slots) (now pool) (now books)) (batch rows (now records) (now body)) r p)
+        × (Decided (world s (now slots) (now pool) (now books)) (batch rows (now records) (now body)) (p .column) source) ⌝ }
+    ensures { λ q. ⌜ Steps (copiedBy (world s (now (slots .entry)) (now (pool .entry)) (now (books .entry))) (batch rows (now (records .entry)) (now (body .entry))) p (source .way))
+        q (now (slots .exit)) (now (pool .exit)) (now (books .exit)) ⌝ }
+{
+    let width = layout::width_of(s, p.column);
+    let begin = p.place + (s.rows.0 as usize) * width;
+    let size = layout::bitmap_bytes(s);
+    primitive::copy_validity(slots, begin, size, body, r, p);
+    let way = source.way;
+    match way {
+        Way::Copied => {
+            primitive::copy_values(slots, body, r, width, p);
+            Step {
+                state: s,
+                number: 0,
+            }
+        }
+        Way::Attached => attach(s, slots, books, records, body, rows, r, p),
+        Way::Compacted => {
+            let ideal = source.ideal;
+            compact(s, slots, pool, books, records, body, rows, r, p, ideal)
+        }
+    }
+}

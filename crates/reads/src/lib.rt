@@ -1,0 +1,247 @@
+// The calls that change no slot: rows and buffers read, buffers registered and let go, the limit, the counts.
+// From arrow-select 60.0.0, src/coalesce.rs: `biggest_coalesce_batch_size` and its setter, `get_buffered_rows`, `has_completed_batch`, `is_empty`; the
+// others are added by the port.
+ghost use mathlib.Core.Bool.{true};
+ghost use mathlib.Core.Path.{_≡_};
+ghost use mathlib.Core.List.{[]};
+ghost use Prim.Native.Nat.{_+_, _≤_, _<_};
+ghost use lib.ListN.{length};
+ghost use Rattle.views.specs.View.{viewOf};
+ghost use Rattle.state.specs.World.{world};
+ghost use Rattle.state.specs.Layout.{isViews};
+ghost use Rattle.rules.specs.Batch.{batch};
+ghost use Rattle.rules.specs.Ranges.{tested};
+ghost use Rattle.rules.specs.Steps.{withLimit};
+ghost use Rattle.rules.specs.Calls.{registerCall, letGoCall, bufferNumberCall, bufferCall, viewAnswer, valueAnswer, readRow, limitOf, bufferedCount, hasCompleted, isEmpty};
+ghost use Rattle.ranges.specs.Passed.{Passed};
+ghost use Rattle.reads.specs.Reads.{rowAnswer, frontRow, Registers, LetsGo};
+use counts::BufferNumber;
+use counts::ByteCount;
+use counts::RowCount;
+use pool::Registered;
+use state::BatchCoalescer;
+use state::Limit;
+use state::Place;
+use state::RowAnswer;
+
+// Registers bytes with a capacity; the caller holds the buffer. 13, 11, 12.
+pub fn register_buffer(
+    s: BatchCoalescer,
+    slots: &[u8],
+    pool: &mut [u8],
+    books: &mut [u8],
+    bytes: &[u8],
+    capacity: ByteCount,
+) -> Registered
+    ensures { λ r. ⌜ Registers (registerCall (world s (now (slots .entry)) (now (pool .entry)) (now (books .entry))) (now (bytes .entry)) (capacity .0)) (now (pool .exit)) (now (books .exit)) r ⌝ }
+{
+    let number = ranges::tested(s, slots, pool, books);
+    if number == 0 {
+        pool::register(books, pool, s.numbers, bytes, capacity)
+    } else {
+        Registered::Refused(number)
+    }
+}
+
+// The caller lets a buffer go: 0, or the number of the refusal. 13.
+pub fn let_go(
+    s: BatchCoalescer,
+    slots: &[u8],
+    pool: &[u8],
+    books: &mut [u8],
+    buffer: BufferNumber,
+) -> u32
+    ensures { λ r. ⌜ LetsGo (letGoCall (world s (now (slots .entry)) (now (pool .entry)) (now (books .entry))) (buffer .0)) (now (books .exit)) r ⌝ }
+{
+    let number = ranges::tested(s, slots, pool, books);
+    if number == 0 {
+        pool::let_go(books, buffer)
+    } else {
+        number
+    }
+}
+
+// The number of the refusal of a read of a buffer, or 0. 13.
+pub fn buffer_refusal(
+    s: BatchCoalescer,
+    slots: &[u8],
+    pool: &[u8],
+    books: &[u8],
+    buffer: BufferNumber,
+) -> u32
+    ensures { λ r. ⌜ r ≡ bufferNumberCall (world s (now (slots .entry)) (now (pool .entry)) (now (books .entry))) (buffer .0) ⌝ }
+{
+    let number = ranges::tested(s, slots, pool, books);
+    if number == 0 {
+        pool::buffer_refusal(books, pool, buffer)
+    } else {
+        number
+    }
+}
+
+// The part of the pool that a buffer fills, and an empty part where the read is refused.
+pub fn read_buffer<'a>(
+    s: BatchCoalescer,
+    slots: &[u8],
+    pool: &'a [u8],
+    books: &[u8],
+    buffer: BufferNumber,
+) -> &'a [u8]
+    ensures { λ r. ⌜ now r ≡ bufferCall (world s (now (slots .entry)) (now (pool .entry)) (now (books .entry))) (buffer .0) ⌝ }
+{
+    if ranges::tested(s, slots, pool, books) == 0 {
+        pool::buffer_part(books, pool, buffer)
+    } else {
+        &pool[..0]
+    }
+}
+
+// Where the bytes of a view of a slot are. 13 for a long view outside its list, which no history leaves.
+fn view_answer(
+    s: BatchCoalescer,
+    slots: &[u8],
+    books: &[u8],
+    slot: u32,
+    c: u32,
+    at: usize,
+) -> RowAnswer
+    requires { ⌜ (Passed s (now slots) (now books)) × (slot ≤ s .queue) × (c < s .columns) × (isViews s c ≡ true) × (at + 16 ≤ length (now slots)) ⌝ }
+    ensures { λ r. ⌜ r ≡ viewAnswer (world s (now (slots .entry)) [] (now (books .entry))) slot c at (viewOf (now (slots .entry)) at) ⌝ }
+{
+    let v = views::view_at(slots, at);
+    if v.length <= views::MAX_INLINE_VIEW_LEN {
+        return RowAnswer::Value(Place::InRow((at as u64) + 4, ByteCount(v.length)));
+    }
+    if v.index < ranges::list_length(s, books, slot, c) {
+        let k = words::get32(
+            slots,
+            layout::list_place(s, slot, c) + 4 * (v.index as usize),
+        );
+        RowAnswer::Value(Place::InBuffer(BufferNumber(k), v.offset, ByteCount(v.length)))
+    } else {
+        RowAnswer::Refused(13)
+    }
+}
+
+// A value of a slot: where it is.
+fn value_answer(
+    s: BatchCoalescer,
+    slots: &[u8],
+    books: &[u8],
+    slot: u32,
+    c: u32,
+    i: u32,
+) -> RowAnswer
+    requires { ⌜ (Passed s (now slots) (now books)) × (slot ≤ s .queue) × (c < s .columns) × (i < s .rows .0) ⌝ }
+    ensures { λ r. ⌜ r ≡ valueAnswer (world s (now (slots .entry)) [] (now (books .entry))) slot c i ⌝ }
+{
+    let at = layout::cell_place(s, slot, c, i);
+    if layout::is_views(s, c) {
+        view_answer(s, slots, books, slot, c, at)
+    } else {
+        let width = layout::width_of(s, c);
+        RowAnswer::Value(Place::InRow(at as u64, ByteCount(width as u32)))
+    }
+}
+
+// A row of a slot: null, or where its value is.
+fn row_answer(s: BatchCoalescer, slots: &[u8], books: &[u8], slot: u32, c: u32, i: u32) -> RowAnswer
+    requires { ⌜ (Passed s (now slots) (now books)) × (slot ≤ s .queue) × (c < s .columns) × (i < s .rows .0) ⌝ }
+    ensures { λ r. ⌜ r ≡ rowAnswer (world s (now (slots .entry)) [] (now (books .entry))) slot c i ⌝ }
+{
+    let bit = bits::bit_at(slots, layout::bitmap_place(s, slot, c), 0, i as usize);
+    if bit == 0 {
+        RowAnswer::Null
+    } else {
+        value_answer(s, slots, books, slot, c, i)
+    }
+}
+
+// Row i of column c of the front batch, in a state that passed its tests. 13 where there is none.
+fn front_row(s: BatchCoalescer, slots: &[u8], books: &[u8], c: u32, i: u32) -> RowAnswer
+    requires { ⌜ Passed s (now slots) (now books) ⌝ }
+    ensures { λ r. ⌜ r ≡ frontRow (world s (now (slots .entry)) [] (now (books .entry))) c i ⌝ }
+{
+    if s.queued == 0 {
+        return RowAnswer::Refused(13);
+    }
+    if s.columns <= c {
+        return RowAnswer::Refused(13);
+    }
+    let slot = layout::front_slot(s);
+    if i < ranges::rows_in(s, books, slot) {
+        row_answer(s, slots, books, slot, c, i)
+    } else {
+        RowAnswer::Refused(13)
+    }
+}
+
+// Row i of column c of the front batch. 13 where there is none.
+pub fn read_row(
+    s: BatchCoalescer,
+    slots: &[u8],
+    pool: &[u8],
+    books: &[u8],
+    c: u32,
+    i: u32,
+) -> RowAnswer
+    ensures { λ r. ⌜ r ≡ readRow (world s (now (slots .entry)) (now (pool .entry)) (now (books .entry))) c i ⌝ }
+{
+    let number = ranges::tested(s, slots, pool, books);
+    if number == 0 {
+        front_row(s, slots, books, c, i)
+    } else {
+        RowAnswer::Refused(number)
+    }
+}
+
+// biggest_coalesce_batch_size, and its setter.
+pub fn biggest_coalesce_batch_size(s: BatchCoalescer) -> Limit
+    ensures { λ r. ⌜ r ≡ limitOf s ⌝ }
+{
+    let limit = s.limit;
+    limit
+}
+
+pub fn set_biggest_coalesce_batch_size(s: BatchCoalescer, limit: Limit) -> BatchCoalescer
+    ensures { λ r. ⌜ r ≡ withLimit s limit ⌝ }
+{
+    let column = s.column;
+    BatchCoalescer {
+        target: RowCount(s.target.0),
+        rows: RowCount(s.rows.0),
+        queue: s.queue,
+        columns: s.columns,
+        lists: s.lists,
+        numbers: s.numbers,
+        pool: ByteCount(s.pool.0),
+        limit,
+        place: s.place,
+        queued: s.queued,
+        buffered: RowCount(s.buffered.0),
+        column,
+    }
+}
+
+// get_buffered_rows, has_completed_batch, is_empty.
+pub fn get_buffered_rows(s: BatchCoalescer) -> RowCount
+    ensures { λ r. ⌜ r .0 ≡ bufferedCount s ⌝ }
+{
+    RowCount(s.buffered.0)
+}
+
+pub fn has_completed_batch(s: BatchCoalescer) -> bool
+    ensures { λ r. ⌜ r ≡ hasCompleted s ⌝ }
+{
+    0 < s.queued
+}
+
+pub fn is_empty(s: BatchCoalescer) -> bool
+    ensures { λ r. ⌜ r ≡ isEmpty s ⌝ }
+{
+    if s.buffered.0 == 0 {
+        s.queued == 0
+    } else {
+        false
+    }
+}

@@ -1,0 +1,128 @@
+-- What the steps of a push ask, and what they leave.
+use Prim.Native.Nat.{ℕ, _+_, _≤_, _<_}
+use mathlib.Core.Path.{_≡_}
+use mathlib.Core.Bool.{cond}
+use mathlib.Core.List.{List, []}
+use lib.ListN.{length}
+use Rattle.state.specs.declared.BatchCoalescer.{BatchCoalescer}
+use Rattle.state.specs.World.{World, world}
+use Rattle.state.specs.Layout.{isViews, valuesPlace, slotsLength, listLength}
+use Rattle.rules.specs.Batch.{Batch, recordOf}
+use Rattle.rules.specs.Steps.{Res, bind, each}
+use Rattle.rules.specs.Views.{filling, closed, bitsCopied, valuesCopied}
+use Rattle.rules.specs.Push.{finished, columnWhole, queuedWhole, partTaken, ifFull}
+use Rattle.rules.specs.Stays.{SameSetUp}
+use Rattle.going.specs.Run.{Run, Readable}
+use Rattle.going.specs.Firm.{Firm}
+use Rattle.going.specs.Along.{Along}
+use Rattle.columns.specs.declared.Step.{Step}
+use Rattle.columns.specs.Step.{Steps}
+use Rattle.trial.specs.declared.Sources.{Sources}
+use Rattle.trial.specs.Trial.{Sourced}
+use Rattle.in_progress.specs.Part.{Booked}
+
+-- ---- finishing
+
+-- state and books are in order, beside slots of the right length
+pub record Closable (s : BatchCoalescer) (slots books : List ℕ) : Type 0 where
+  pub booked : Booked s books
+  pub slots-are : length slots ≡ slotsLength s
+
+-- the open block of one column joins its list, if it is one of views
+abbrev pub close : World → ℕ → World
+close v c = cond (isViews (v .state) c) (closed v c) v
+
+pub record ClosesOne (s : BatchCoalescer) (slots books : List ℕ) (c : ℕ) (t : BatchCoalescer) (slots′ books′ : List ℕ) : Type 0 where
+  pub is : (pool : List ℕ) → close (world s slots pool books) c ≡ world t slots′ pool books′
+
+-- those of the first c columns do
+pub record ClosesAll (s : BatchCoalescer) (slots books : List ℕ) (c : ℕ) (t : BatchCoalescer) (slots′ books′ : List ℕ) : Type 0 where
+  pub is : (pool : List ℕ) → each c close (world s slots pool books) ≡ world t slots′ pool books′
+  pub along : (pool : List ℕ) → length pool ≡ s .pool .0 → Along (world s slots pool books) (world t slots′ pool books′)
+
+-- a slot is finished, or is not
+pub record Finishes (s : BatchCoalescer) (slots books : List ℕ) (q : Step) (slots′ books′ : List ℕ) : Type 0 where
+  pub steps : (pool : List ℕ) → Steps (finished (world s slots pool books)) q slots′ pool books′
+
+-- the same where it is full
+pub record FinishesFull (s : BatchCoalescer) (slots books : List ℕ) (q : Step) (slots′ books′ : List ℕ) : Type 0 where
+  pub steps : (pool : List ℕ) → Steps (ifFull (world s slots pool books)) q slots′ pool books′
+
+-- ---- parts
+
+-- n rows of the batch from row `from` on may be taken; what is decided of its columns was decided in a world of the same set-up
+pub record Taking (w : World) (b : Batch) (x : Sources) (from n : ℕ) : Type 0 where
+  pub run : Run w
+  pub reads : Readable w b
+  pub origin : World
+  pub same : SameSetUp (origin .state) (w .state)
+  pub sourced : Sourced x origin b
+  pub there : from + n ≤ b .rows
+  pub room : w .state .buffered .0 + n ≤ w .state .rows .0
+
+-- the part is taken, or is not; w₀ is the world in which its columns were decided
+pub record Takes (w : World) (b : Batch) (x : Sources) (from n : ℕ) (q : Step) (slots′ pool′ books′ : List ℕ) : Type 0 where
+  pub steps : (w₀ : World) → SameSetUp (w₀ .state) (w .state) → Sourced x w₀ b → Steps (partTaken w₀ w b from n) q slots′ pool′ books′
+
+-- and another step behind it
+pub record TakesThen (f : World → Res) (w : World) (b : Batch) (x : Sources) (from n : ℕ) (q : Step) (slots′ pool′ books′ : List ℕ) : Type 0 where
+  pub steps : (w₀ : World) → SameSetUp (w₀ .state) (w .state) → Sourced x w₀ b → Steps (bind (partTaken w₀ w b from n) f) q slots′ pool′ books′
+
+-- the whole batch may be cut
+pub record Cutting (w : World) (b : Batch) (x : Sources) : Type 0 where
+  pub run : Run w
+  pub reads : Readable w b
+  pub sourced : Sourced x w b
+  pub below : w .state .buffered .0 < w .state .target .0
+
+-- ---- a batch queued whole
+
+-- its rows have a place in column c of the slot being filled
+pub record Rowed (s : BatchCoalescer) (slots : List ℕ) (b : Batch) (c place : ℕ) : Type 0 where
+  pub books : List ℕ
+  pub pool : List ℕ
+  pub firm : Firm (world s slots pool books)
+  pub reads : Readable (world s slots pool books) b
+  pub column : c < s .columns
+  pub placed : place ≡ valuesPlace s (s .place) c
+
+-- column c but for its list
+abbrev pub rowsWhole : World → Batch → ℕ → World
+rowsWhole v b c = valuesCopied (bitsCopied v b c (filling v) 0 0 (b .rows)) b c (filling v) 0 0 (b .rows)
+
+pub record LaysRows (s : BatchCoalescer) (slots : List ℕ) (b : Batch) (c : ℕ) (slots′ : List ℕ) : Type 0 where
+  pub is : (pool books : List ℕ) → rowsWhole (world s slots pool books) b c ≡ world s slots′ pool books
+
+-- and its list has one too
+pub record Columned (s : BatchCoalescer) (slots books : List ℕ) (b : Batch) (c place : ℕ) : Type 0 where
+  pub pool : List ℕ
+  pub firm : Firm (world s slots pool books)
+  pub reads : Readable (world s slots pool books) b
+  pub column : c < s .columns
+  pub placed : place ≡ valuesPlace s (s .place) c
+  pub room : listLength (world s [] [] books) (s .place) c + recordOf b c .count ≤ s .lists
+
+pub record LaysColumn (s : BatchCoalescer) (slots books : List ℕ) (b : Batch) (c : ℕ) (slots′ books′ : List ℕ) : Type 0 where
+  pub is : (pool : List ℕ) → columnWhole (world s slots pool books) b c ≡ world s slots′ pool books′
+
+-- state, books and batch are in order
+pub record Asks (s : BatchCoalescer) (slots books : List ℕ) (b : Batch) : Type 0 where
+  pub booked : Booked s books
+  pub slots-are : length slots ≡ slotsLength s
+  pub reads : Readable (world s [] [] books) b
+  pub below : s .buffered .0 < s .target .0
+
+-- and every column's list has room
+pub record Wholly (s : BatchCoalescer) (slots books : List ℕ) (b : Batch) : Type 0 where
+  pub asks : Asks s slots books b
+  pub room : (c : ℕ) → c < s .columns → listLength (world s [] [] books) (s .place) c + recordOf b c .count ≤ s .lists
+
+-- the first c columns
+pub record LaysColumns (s : BatchCoalescer) (slots books : List ℕ) (b : Batch) (c : ℕ) (slots′ books′ : List ℕ) : Type 0 where
+  pub is : (pool : List ℕ) → each c (λ v i. columnWhole v b i) (world s slots pool books) ≡ world s slots′ pool books′
+
+pub record QueuesWhole (s : BatchCoalescer) (slots books : List ℕ) (b : Batch) (q : Step) (slots′ books′ : List ℕ) : Type 0 where
+  pub steps : (pool : List ℕ) → Steps (queuedWhole (world s slots pool books) b) q slots′ pool books′
+
+pub record QueuesFirst (s : BatchCoalescer) (slots books : List ℕ) (b : Batch) (q : Step) (slots′ books′ : List ℕ) : Type 0 where
+  pub steps : (pool : List ℕ) → Steps (bind (finished (world s slots pool books)) (λ v. queuedWhole v b)) q slots′ pool books′

@@ -1,0 +1,428 @@
+// The steps of a push, once there is room for all of them: parts copied and finished, a batch queued whole.
+// From arrow-select 60.0.0, src/coalesce.rs: the body of `push_batch`, and `finish_buffered_batch`.
+ghost use mathlib.Core.Path.{_≡_};
+ghost use Prim.Native.Nat.{_+_, _≤_, _<_};
+ghost use mathlib.Core.List.{[]};
+ghost use lib.ListN.{length};
+ghost use Rattle.tallies.specs.Tally.{withTally};
+ghost use Rattle.state.specs.World.{world};
+ghost use Rattle.state.specs.Layout.{valuesPlace, slotsLength, booksLength, tally, nextSlot};
+ghost use Rattle.layout.specs.Few.{Few};
+ghost use Rattle.rules.specs.Batch.{batch, recordOf};
+ghost use Rattle.rules.specs.Steps.{withCounts};
+ghost use Rattle.rules.specs.Push.{finished, ifFull, coalesced, stepped};
+ghost use Rattle.columns.specs.Pushing.{Running, Pushing};
+ghost use Rattle.columns.specs.Step.{Steps};
+ghost use Rattle.trial.specs.Trial.{Sourced};
+ghost use Rattle.in_progress.specs.Part.{Part, Decided, copiedBy};
+ghost use Rattle.steps.specs.Taking.{Closable, ClosesOne, ClosesAll, Finishes, FinishesFull, Taking, Takes, TakesThen, Cutting, Rowed, LaysRows, Columned, LaysColumn, Wholly, LaysColumns, Asks, QueuesWhole, QueuesFirst};
+use byte_view::Source;
+use columns::Step;
+use counts::RowCount;
+use primitive::Rows;
+use rules::ColumnRecord;
+use state::BatchCoalescer;
+use tallies::Tally;
+use trial::Route;
+use trial::Sources;
+
+// Where the next column of the slot being filled begins.
+fn next_place(s: BatchCoalescer, c: u32, place: usize) -> usize
+    requires { ⌜ (Few s) × (s .place ≤ s .queue) × (c < s .columns) × (place ≡ valuesPlace s (s .place) c) ⌝ }
+    ensures { λ r. ⌜ r ≡ valuesPlace s (s .place) (c + 1) ⌝ }
+{
+    let at = c as usize;
+    let column = s.column[at];
+    place + layout::column_size(column.kind, s.rows.0, s.lists)
+}
+
+// Rows of one column, copied.
+fn copy_column(
+    s: BatchCoalescer,
+    slots: &mut [u8],
+    pool: &mut [u8],
+    books: &mut [u8],
+    records: &[u8],
+    body: &[u8],
+    rows: u32,
+    source: Source,
+    p: Rows,
+) -> Step
+    requires { ⌜ (Part (world s (now slots) (now pool) (now books)) (batch rows (now records) (now body)) (recordOf (batch rows (now records) (now body)) (p .column)) p)
+        × (Decided (world s (now slots) (now pool) (now books)) (batch rows (now records) (now body)) (p .column) source) ⌝ }
+    ensures { λ q. ⌜ Steps (copiedBy (world s (now (slots .entry)) (now (pool .entry)) (now (books .entry))) (batch rows (now (records .entry)) (now (body .entry))) p (source .way))
+        q (now (slots .exit)) (now (pool .exit)) (now (books .exit)) ⌝ }
+{
+    let r = checks::record_at(records, p.column);
+    in_progress::copy_rows(s, slots, pool, books, records, body, rows, r, source, p)
+}
+
+// n rows of every column from row `from` on, copied and buffered.
+fn copy_part(
+    s: BatchCoalescer,
+    slots: &mut [u8],
+    pool: &mut [u8],
+    books: &mut [u8],
+    records: &[u8],
+    body: &[u8],
+    rows: u32,
+    sources: Sources,
+    from: u32,
+    n: u32,
+) -> Step
+    requires { ⌜ Taking (world s (now slots) (now pool) (now books)) (batch rows (now records) (now body)) sources from n ⌝ }
+    ensures { λ q. ⌜ Takes (world s (now (slots .entry)) (now (pool .entry)) (now (books .entry))) (batch rows (now (records .entry)) (now (body .entry))) sources from n
+        q (now (slots .exit)) (now (pool .exit)) (now (books .exit)) ⌝ }
+{
+    let mut t = s;
+    let mut place = layout::values_place(s, s.place, 0);
+    let mut c: u32 = 0;
+    while c < s.columns {
+        let at = c as usize;
+        let source = sources.column[at];
+        let p = Rows {
+            column: c,
+            place,
+            at: s.buffered.0,
+            from,
+            count: n,
+        };
+        let step = copy_column(t, slots, pool, books, records, body, rows, source, p);
+        if step.number == 0 {
+            t = step.state;
+        } else {
+            return step;
+        }
+        place = next_place(s, c, place);
+        c += 1;
+    }
+    let buffered = RowCount(s.buffered.0 + n);
+    t.buffered = buffered;
+    Step {
+        state: t,
+        number: 0,
+    }
+}
+
+// The open block of column c joins its list, if it is one of views.
+fn close_one(s: BatchCoalescer, slots: &mut [u8], books: &mut [u8], c: u32) -> BatchCoalescer
+    requires { ⌜ (Closable s (now slots) (now books)) × (c < s .columns) ⌝ }
+    ensures { λ r. ⌜ ClosesOne s (now (slots .entry)) (now (books .entry)) c r (now (slots .exit)) (now (books .exit)) ⌝ }
+{
+    if layout::is_views(s, c) {
+        in_progress::finish_current(s, slots, books, c)
+    } else {
+        s
+    }
+}
+
+// The open block of each column of views joins its list.
+fn close_all(s: BatchCoalescer, slots: &mut [u8], books: &mut [u8]) -> BatchCoalescer
+    requires { ⌜ Closable s (now slots) (now books) ⌝ }
+    ensures { λ r. ⌜ ClosesAll s (now (slots .entry)) (now (books .entry)) (s .columns) r (now (slots .exit)) (now (books .exit)) ⌝ }
+{
+    let mut t = s;
+    let mut c: u32 = 0;
+    while c < s.columns {
+        t = close_one(t, slots, books, c);
+        c += 1;
+    }
+    t
+}
+
+// The slot being filled queued with so many rows.
+fn queue_slot(s: BatchCoalescer, books: &mut [u8], rows: u32) -> BatchCoalescer
+    requires { ⌜ (Few s) × (s .place ≤ s .queue) × (s .queued < s .queue) × (length (now books) ≡ booksLength s) ⌝ }
+    ensures { λ r. ⌜ (r ≡ withCounts s (nextSlot s (s .place)) (s .queued + 1) 0)
+        × (now (books .exit) ≡ withTally (now (books .entry)) (tally s (s .place) 0) rows) ⌝ }
+{
+    let t = Tally {
+        numbers: s.numbers,
+        columns: s.columns,
+        slot: s.place,
+        word: 0,
+    };
+    tallies::put_tally(books, t, rows);
+    trial::next_to_fill(s)
+}
+
+// Finishing, however many rows are buffered.
+fn finish_slot(s: BatchCoalescer, slots: &mut [u8], books: &mut [u8]) -> Step
+    requires { ⌜ Closable s (now slots) (now books) ⌝ }
+    ensures { λ r. ⌜ Finishes s (now (slots .entry)) (now (books .entry)) r (now (slots .exit)) (now (books .exit)) ⌝ }
+{
+    if s.buffered.0 == 0 {
+        Step {
+            state: s,
+            number: 0,
+        }
+    } else {
+        if s.queued < s.queue {
+            let t = close_all(s, slots, books);
+            let u = queue_slot(t, books, s.buffered.0);
+            Step {
+                state: u,
+                number: 0,
+            }
+        } else {
+            Step {
+                state: s,
+                number: 9,
+            }
+        }
+    }
+}
+
+// finish_buffered_batch: nothing with 0 buffered; else each open block joins its list and the slot is queued. 9.
+pub fn finish(s: BatchCoalescer, slots: &mut [u8], books: &mut [u8]) -> Step
+    requires { ⌜ (Running s (now books)) × (length (now slots) ≡ slotsLength s) ⌝ }
+    ensures { λ r. ⌜ Finishes s (now (slots .entry)) (now (books .entry)) r (now (slots .exit)) (now (books .exit)) ⌝ }
+{
+    finish_slot(s, slots, books)
+}
+
+// A part that fills the slot, then finishing.
+fn copy_full(
+    s: BatchCoalescer,
+    slots: &mut [u8],
+    pool: &mut [u8],
+    books: &mut [u8],
+    records: &[u8],
+    body: &[u8],
+    rows: u32,
+    sources: Sources,
+    from: u32,
+    n: u32,
+) -> Step
+    requires { ⌜ Taking (world s (now slots) (now pool) (now books)) (batch rows (now records) (now body)) sources from n ⌝ }
+    ensures { λ q. ⌜ TakesThen finished (world s (now (slots .entry)) (now (pool .entry)) (now (books .entry))) (batch rows (now (records .entry)) (now (body .entry))) sources from n
+        q (now (slots .exit)) (now (pool .exit)) (now (books .exit)) ⌝ }
+{
+    let step = copy_part(s, slots, pool, books, records, body, rows, sources, from, n);
+    if step.number == 0 {
+        let t = step.state;
+        finish_slot(t, slots, books)
+    } else {
+        step
+    }
+}
+
+// The same where the slot is full.
+fn finish_full(s: BatchCoalescer, slots: &mut [u8], books: &mut [u8]) -> Step
+    requires { ⌜ Closable s (now slots) (now books) ⌝ }
+    ensures { λ r. ⌜ FinishesFull s (now (slots .entry)) (now (books .entry)) r (now (slots .exit)) (now (books .exit)) ⌝ }
+{
+    if s.buffered.0 == s.target.0 {
+        finish_slot(s, slots, books)
+    } else {
+        Step {
+            state: s,
+            number: 0,
+        }
+    }
+}
+
+// The last part, then finishing if the slot is full.
+fn copy_last(
+    s: BatchCoalescer,
+    slots: &mut [u8],
+    pool: &mut [u8],
+    books: &mut [u8],
+    records: &[u8],
+    body: &[u8],
+    rows: u32,
+    sources: Sources,
+    from: u32,
+    n: u32,
+) -> Step
+    requires { ⌜ Taking (world s (now slots) (now pool) (now books)) (batch rows (now records) (now body)) sources from n ⌝ }
+    ensures { λ q. ⌜ TakesThen ifFull (world s (now (slots .entry)) (now (pool .entry)) (now (books .entry))) (batch rows (now (records .entry)) (now (body .entry))) sources from n
+        q (now (slots .exit)) (now (pool .exit)) (now (books .exit)) ⌝ }
+{
+    let step = copy_part(s, slots, pool, books, records, body, rows, sources, from, n);
+    if step.number == 0 {
+        let t = step.state;
+        finish_full(t, slots, books)
+    } else {
+        step
+    }
+}
+
+// Steps 3 and 4.
+fn coalesce_rows(
+    s: BatchCoalescer,
+    slots: &mut [u8],
+    pool: &mut [u8],
+    books: &mut [u8],
+    records: &[u8],
+    body: &[u8],
+    rows: u32,
+    sources: Sources,
+) -> Step
+    requires { ⌜ Cutting (world s (now slots) (now pool) (now books)) (batch rows (now records) (now body)) sources ⌝ }
+    ensures { λ q. ⌜ Steps (coalesced rows (world s (now (slots .entry)) (now (pool .entry)) (now (books .entry))) (world s (now (slots .entry)) (now (pool .entry)) (now (books .entry))) (batch rows (now (records .entry)) (now (body .entry))) 0)
+        q (now (slots .exit)) (now (pool .exit)) (now (books .exit)) ⌝ }
+{
+    let mut t = s;
+    let mut from: u32 = 0;
+    while t.target.0 - t.buffered.0 < rows - from {
+        let n = t.target.0 - t.buffered.0;
+        let step = copy_full(t, slots, pool, books, records, body, rows, sources, from, n);
+        if step.number == 0 {
+            t = step.state;
+        } else {
+            return step;
+        }
+        from += n;
+    }
+    copy_last(
+        t,
+        slots,
+        pool,
+        books,
+        records,
+        body,
+        rows,
+        sources,
+        from,
+        rows - from,
+    )
+}
+
+// Values and validity of column c of a whole batch in the slot being filled, views unchanged.
+fn lay_rows(
+    s: BatchCoalescer,
+    slots: &mut [u8],
+    records: &[u8],
+    body: &[u8],
+    rows: u32,
+    r: ColumnRecord,
+    c: u32,
+    place: usize,
+)
+    requires { ⌜ (Rowed s (now slots) (batch rows (now records) (now body)) c place) × (r ≡ recordOf (batch rows (now records) (now body)) c) ⌝ }
+    ensures { λ _. ⌜ LaysRows s (now (slots .entry)) (batch rows (now (records .entry)) (now (body .entry))) c (now (slots .exit)) ⌝ }
+{
+    let p = Rows {
+        column: c,
+        place,
+        at: 0,
+        from: 0,
+        count: rows,
+    };
+    let width = layout::width_of(s, c);
+    let begin = place + (s.rows.0 as usize) * width;
+    let size = layout::bitmap_bytes(s);
+    primitive::copy_validity(slots, begin, size, body, r, p);
+    primitive::copy_values(slots, body, r, width, p);
+}
+
+// Column c of a whole batch in the slot being filled: views unchanged, the list as given.
+fn copy_whole(
+    s: BatchCoalescer,
+    slots: &mut [u8],
+    books: &mut [u8],
+    records: &[u8],
+    body: &[u8],
+    rows: u32,
+    c: u32,
+    place: usize,
+)
+    requires { ⌜ Columned s (now slots) (now books) (batch rows (now records) (now body)) c place ⌝ }
+    ensures { λ _. ⌜ LaysColumn s (now (slots .entry)) (now (books .entry)) (batch rows (now (records .entry)) (now (body .entry))) c (now (slots .exit)) (now (books .exit)) ⌝ }
+{
+    let r = checks::record_at(records, c);
+    lay_rows(s, slots, records, body, rows, r, c, place);
+    in_progress::append_list(s, slots, books, records, body, rows, r, c);
+}
+
+// Every column of it.
+fn copy_columns(
+    s: BatchCoalescer,
+    slots: &mut [u8],
+    books: &mut [u8],
+    records: &[u8],
+    body: &[u8],
+    rows: u32,
+)
+    requires { ⌜ Wholly s (now slots) (now books) (batch rows (now records) (now body)) ⌝ }
+    ensures { λ _. ⌜ LaysColumns s (now (slots .entry)) (now (books .entry)) (batch rows (now (records .entry)) (now (body .entry))) (s .columns) (now (slots .exit)) (now (books .exit)) ⌝ }
+{
+    let mut place = layout::values_place(s, s.place, 0);
+    let mut c: u32 = 0;
+    while c < s.columns {
+        copy_whole(s, slots, books, records, body, rows, c, place);
+        place = next_place(s, c, place);
+        c += 1;
+    }
+}
+
+// A batch queued whole: 9, then 10 by columns.
+fn queue_whole(
+    s: BatchCoalescer,
+    slots: &mut [u8],
+    books: &mut [u8],
+    records: &[u8],
+    body: &[u8],
+    rows: u32,
+) -> Step
+    requires { ⌜ Asks s (now slots) (now books) (batch rows (now records) (now body)) ⌝ }
+    ensures { λ q. ⌜ QueuesWhole s (now (slots .entry)) (now (books .entry)) (batch rows (now (records .entry)) (now (body .entry))) q (now (slots .exit)) (now (books .exit)) ⌝ }
+{
+    let number = trial::try_whole(s, books, records);
+    if number == 0 {
+        copy_columns(s, slots, books, records, body, rows);
+        let t = queue_slot(s, books, rows);
+        Step {
+            state: t,
+            number: 0,
+        }
+    } else {
+        Step { state: s, number }
+    }
+}
+
+// Finishing, then the batch queued whole.
+fn finish_first(
+    s: BatchCoalescer,
+    slots: &mut [u8],
+    books: &mut [u8],
+    records: &[u8],
+    body: &[u8],
+    rows: u32,
+) -> Step
+    requires { ⌜ Asks s (now slots) (now books) (batch rows (now records) (now body)) ⌝ }
+    ensures { λ q. ⌜ QueuesFirst s (now (slots .entry)) (now (books .entry)) (batch rows (now (records .entry)) (now (body .entry))) q (now (slots .exit)) (now (books .exit)) ⌝ }
+{
+    let step = finish_slot(s, slots, books);
+    if step.number == 0 {
+        let t = step.state;
+        queue_whole(t, slots, books, records, body, rows)
+    } else {
+        step
+    }
+}
+
+// Steps 2 to 4 of a push.
+pub fn push_rows(
+    s: BatchCoalescer,
+    slots: &mut [u8],
+    pool: &mut [u8],
+    books: &mut [u8],
+    records: &[u8],
+    body: &[u8],
+    sources: Sources,
+    rows: u32,
+) -> Step
+    requires { ⌜ (Pushing s (now books) (batch rows (now records) (now body))) × (Sourced sources (world s [] [] (now books)) (batch rows (now records) (now body)))
+        × (length (now slots) ≡ slotsLength s) × (length (now pool) ≡ s .pool .0) ⌝ }
+    ensures { λ q. ⌜ Steps (stepped (world s (now (slots .entry)) (now (pool .entry)) (now (books .entry))) (batch rows (now (records .entry)) (now (body .entry))))
+        q (now (slots .exit)) (now (pool .exit)) (now (books .exit)) ⌝ }
+{
+    let route = trial::route_of(s, rows);
+    match route {
+        Route::Coalesce => coalesce_rows(s, slots, pool, books, records, body, rows, sources),
+        Route::Whole => queue_whole(s, slots, books, records, body, rows),
+        Route::FinishFirst => finish_first(s, slots, books, records, body, rows),
+    }
+}

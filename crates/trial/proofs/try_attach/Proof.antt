@@ -1,0 +1,47 @@
+-- `trial::try_attach` meets its contract.
+use borrow.Author.Needs.{needs}
+use Rattle.trial.specs.CloseLaws.{column-shut}
+use Rattle.trial.specs.TryingLaws.{trying-column, trying-list, column-none}
+use Rattle.trial.proofs.try_attach.Statement.{statement}
+use Rattle.trial.proofs.try_attach.Tie as tie
+
+list-closed-requires : tie.Need-list-closed-requires
+list-closed-requires c κs = trying-list (c .before .pre .0) (c .before .pre .1)
+
+cast-if1 : tie.Need-cast-if1
+cast-if1 c = search needs
+
+cast-if1-2 : tie.Need-cast-if1-2
+cast-if1-2 c = search needs
+
+add-if1 : tie.Need-add-if1
+add-if1 c = search needs
+
+cast-if1-3 : tie.Need-cast-if1-3
+cast-if1-3 c = search needs
+
+column-of-requires : tie.Need-column-of-requires
+column-of-requires c κs = search (trying-column, needs)
+
+with-column-requires : tie.Need-with-column-requires
+with-column-requires c κs = search (trying-column, needs)
+
+returns : tie.Need-returns
+returns c = search (column-shut, needs)
+
+returns-2 : tie.Need-returns-2
+returns-2 c = search (column-none, needs)
+
+pub try-attach-spec : {M : Type 1} → statement M
+try-attach-spec =
+    tie.close
+    (tie.spec
+    list-closed-requires
+    cast-if1
+    cast-if1-2
+    add-if1
+    cast-if1-3
+    column-of-requires
+    with-column-requires
+    returns
+    returns-2)

@@ -1,0 +1,84 @@
+-- `trial::try_part` meets its contract.
+use Prim.Native.Nat.{_≤_, _-_}
+use mathlib.Core.Path.{_≡_, refl}
+use native.Mathlib.Omega.{arith}
+use lib.ListN.{length}
+use borrow.Author.Needs.{needs}
+use Rattle.trial.specs.PartLaws.{record-asks, column-in, column-asks, part-refused, part-done}
+use Rattle.trial.specs.TryingLaws.{trying-bounds, column-none, column-trans, tries-length}
+use Rattle.trial.specs.Trying.{TriesColumn}
+use Rattle.trial.proofs.try_part.Statement.{statement}
+use Rattle.trial.proofs.try_part.Tie as tie
+
+abbrev Inv-loop : tie.InvT-loop
+Inv-loop s books₀ records body from n sources t₀ c₀ books t c = (c ≤ s .columns) × (s .columns ≤ 16) × (length books ≡ length books₀) × (TriesColumn s books₀ t books)
+
+abbrev μ-loop : tie.MeasureT-loop
+μ-loop s books₀ records body from n sources t₀ c₀ books t c = s .columns - c
+
+loop-holds : tie.Need-loop-holds Inv-loop μ-loop
+loop-holds c = (omega arith, trying-bounds (c .before .before .before .pre .0) .columns, refl, column-none (c .before .before .before .pre .0))
+
+cast-at : tie.Need-cast-at Inv-loop μ-loop
+cast-at c = search needs
+
+mul-source : tie.Need-mul-source Inv-loop μ-loop
+mul-source c = search needs
+
+element-copy-out-source : tie.Need-element-copy-out-source Inv-loop μ-loop
+element-copy-out-source c = search needs
+
+record-at-requires : tie.Need-record-at-requires Inv-loop μ-loop
+record-at-requires c κs = record-asks (c .before .before .before .before .before .before .before .args .from) (c .before .before .before .before .before .before .before .args .n) (c .before .before .before .before .before .before .before .pre .1) (c .before .before .before .loop .inv .3) (c .before .if1 .taken)
+
+try-column-requires : tie.Need-try-column-requires Inv-loop μ-loop
+try-column-requires c κs = (
+  c .before .before .before .before .before .loop .inv .3 .tries .trying,
+  column-in (c .before .before .before .before .before .before .before .before .before .args .from) (c .before .before .before .before .before .before .before .before .before .args .n) (c .before .before .before .before .before .before .before .before .before .pre .1) (c .before .before .before .before .before .loop .inv .3) (c .before .before .before .if1 .taken),
+  column-asks (c .before .before .before .before .before .before .before .before .before .args .from) (c .before .before .before .before .before .before .before .before .before .args .n) (c .before .before .before .before .before .before .before .before .before .pre .1) (c .before .before .before .before .before .loop .inv .3) (c .before .before .before .if1 .taken) (c .before .record-at .ensures) refl,
+)
+
+same-length : tie.Need-same-length Inv-loop μ-loop
+same-length c = search needs
+
+returns : tie.Need-returns Inv-loop μ-loop
+returns c = part-refused (c .before .before .before .before .before .before .before .before .before .before .before .before .before .before .args .n) (c .before .before .before .before .before .before .before .before .before .before .loop .inv .3) (c .before .before .before .before .try-column .ensures) (c .if2 .left)
+
+add-c : tie.Need-add-c Inv-loop μ-loop
+add-c c = search needs
+
+loop-less : tie.Need-loop-less Inv-loop μ-loop
+loop-less c = search needs
+
+loop-again : tie.Need-loop-again Inv-loop μ-loop
+loop-again c = (omega arith, c .before .before .before .before .before .before .before .before .before .before .before .loop .inv .1, tries-length (column-trans (c .before .before .before .before .before .before .before .before .before .before .before .loop .inv .3) (c .before .before .before .before .before .try-column .ensures) .tries), column-trans (c .before .before .before .before .before .before .before .before .before .before .before .loop .inv .3) (c .before .before .before .before .before .try-column .ensures))
+
+add-t23 : tie.Need-add-t23 Inv-loop μ-loop
+add-t23 c = omega (arith, c .before .before .before .before .before .before .before .pre .2)
+
+same-length-2 : tie.Need-same-length-2 Inv-loop μ-loop
+same-length-2 c = search needs
+
+returns-2 : tie.Need-returns-2 Inv-loop μ-loop
+returns-2 c = part-done (c .before .before .before .before .before .before .before .args .n) (c .before .before .before .loop .inv .3)
+
+pub try-part-spec : {M : Type 1} → statement M
+try-part-spec =
+    tie.close
+    (tie.spec
+    Inv-loop
+    μ-loop
+    loop-holds
+    cast-at
+    mul-source
+    element-copy-out-source
+    record-at-requires
+    try-column-requires
+    same-length
+    returns
+    add-c
+    loop-less
+    loop-again
+    add-t23
+    same-length-2
+    returns-2)

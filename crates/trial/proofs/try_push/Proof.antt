@@ -1,0 +1,63 @@
+-- `trial::try_push` meets its contract.
+use borrow.Author.Needs.{needs}
+use Rattle.trial.specs.PartLaws.{whole-asks}
+use Rattle.trial.specs.TryingLaws.{tries-none}
+use Rattle.trial.proofs.try_push.Statement.{statement}
+use Rattle.trial.proofs.try_push.Tie as tie
+
+route-of-requires : tie.Need-route-of-requires
+route-of-requires c κs = search needs
+
+enum-told : tie.Need-enum-told
+enum-told c = search needs
+
+try-rows-requires : tie.Need-try-rows-requires
+try-rows-requires c κs = search needs
+
+enum-told-2 : tie.Need-enum-told-2
+enum-told-2 c = search needs
+
+try-whole-requires : tie.Need-try-whole-requires
+try-whole-requires c κs = whole-asks (c .before .before .before .before .before .before .before .args .records .now) (c .before .before .before .before .before .before .before .pre .0) (c .before .before .before .before .before .before .before .pre .1 .records-are)
+
+enum-told-3 : tie.Need-enum-told-3
+enum-told-3 c = search needs
+
+try-first-requires : tie.Need-try-first-requires
+try-first-requires c κs = search needs
+
+same-length : tie.Need-same-length
+same-length c = search needs
+
+returns : tie.Need-returns
+returns c = search needs
+
+same-length-2 : tie.Need-same-length-2
+same-length-2 c = search needs
+
+returns-2 : tie.Need-returns-2
+returns-2 c = tries-none (c .before .before .before .before .before .before .before .before .pre .0) .marks
+
+same-length-3 : tie.Need-same-length-3
+same-length-3 c = search needs
+
+returns-3 : tie.Need-returns-3
+returns-3 c = tries-none (c .before .before .before .before .before .before .before .before .pre .0) .marks
+
+pub try-push-spec : {M : Type 1} → statement M
+try-push-spec =
+    tie.close
+    (tie.spec
+    route-of-requires
+    enum-told
+    try-rows-requires
+    enum-told-2
+    try-whole-requires
+    enum-told-3
+    try-first-requires
+    same-length
+    returns
+    same-length-2
+    returns-2
+    same-length-3
+    returns-3)

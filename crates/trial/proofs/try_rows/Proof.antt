@@ -1,0 +1,88 @@
+-- `trial::try_rows` meets its contract.
+use Prim.Native.Nat.{_≤_, _-_, _<_}
+use mathlib.Core.Path.{_≡_, refl}
+use native.Mathlib.Omega.{arith}
+use lib.ListN.{length}
+use borrow.Author.Needs.{needs}
+use Rattle.trial.specs.PartLaws.{triable-full, triable-last, turn-done, turn-below, turn-marks, turn-refused}
+use Rattle.trial.specs.TryingLaws.{trying-bounds, tries-none, tries-length}
+use Rattle.trial.specs.Trying.{Tries}
+use Rattle.trial.proofs.try_rows.Statement.{statement}
+use Rattle.trial.proofs.try_rows.Tie as tie
+
+abbrev Inv-loop : tie.InvT-loop
+Inv-loop books₀ records body sources rows t₀ from₀ books t from = (from ≤ rows) × (t .buffered .0 < t .target .0) × (length books ≡ length books₀) × (Tries t₀ books₀ t books)
+
+abbrev μ-loop : tie.MeasureT-loop
+μ-loop books₀ records body sources rows t₀ from₀ books t from = rows - from
+
+loop-holds : tie.Need-loop-holds Inv-loop μ-loop
+loop-holds c = (omega arith, c .before .before .before .pre .2, refl, tries-none (c .before .before .before .pre .0))
+
+sub-if1 : tie.Need-sub-if1 Inv-loop μ-loop
+sub-if1 c = omega (arith, c .before .loop .inv .1)
+
+sub-if1-2 : tie.Need-sub-if1-2 Inv-loop μ-loop
+sub-if1-2 c = omega (arith, c .before .loop .inv .0)
+
+sub-n : tie.Need-sub-n Inv-loop μ-loop
+sub-n c = omega (arith, c .before .before .before .loop .inv .1)
+
+try-full-requires : tie.Need-try-full-requires Inv-loop μ-loop
+try-full-requires c κs = (
+  c .before .before .before .before .loop .inv .3 .trying,
+  triable-full (c .before .before .before .before .loop .inv .3) (c .before .before .before .before .before .before .before .before .pre .1) (c .before .before .before .before .loop .from) (c .before .before .if1 .taken),
+  omega (arith, trying-bounds (c .before .before .before .before .loop .inv .3 .trying) .target, trying-bounds (c .before .before .before .before .loop .inv .3 .trying) .rows, c .before .before .before .before .loop .inv .1),
+)
+
+same-length : tie.Need-same-length Inv-loop μ-loop
+same-length c = search needs
+
+returns : tie.Need-returns Inv-loop μ-loop
+returns c = turn-refused (c .before .before .before .before .before .before .before .before .before .loop .inv .3) (c .before .before .before .before .try-full .ensures)
+
+add-from : tie.Need-add-from Inv-loop μ-loop
+add-from c = omega (arith, c .before .before .before .before .before .before .before .before .if1 .taken, c .before .before .before .before .before .before .before .before .before .before .loop .inv .0, c .before .before .before .before .before .before .before .before .before .before .before .before .before .before .pre .1 .rows-fit)
+
+loop-less : tie.Need-loop-less Inv-loop μ-loop
+loop-less c = omega (arith, c .before .before .before .before .before .before .before .before .if1 .taken, c .before .before .before .before .before .before .before .before .before .before .loop .inv .1)
+
+loop-again : tie.Need-loop-again Inv-loop μ-loop
+loop-again c = (omega (arith, c .before .before .before .before .before .before .before .before .if1 .taken, c .before .before .before .before .before .before .before .before .before .before .loop .inv .0), turn-below (c .before .before .before .before .before .try-full .ensures) (c .before .if2 .taken), tries-length (turn-done (c .before .before .before .before .before .before .before .before .before .before .loop .inv .3) (c .before .before .before .before .before .try-full .ensures)), turn-done (c .before .before .before .before .before .before .before .before .before .before .loop .inv .3) (c .before .before .before .before .before .try-full .ensures))
+
+sub-try-last : tie.Need-sub-try-last Inv-loop μ-loop
+sub-try-last c = omega (arith, c .before .before .before .loop .inv .0)
+
+try-last-requires : tie.Need-try-last-requires Inv-loop μ-loop
+try-last-requires c κs = (
+  c .before .before .before .loop .inv .3 .trying,
+  triable-last (c .before .before .before .loop .inv .3) (c .before .before .before .before .before .before .before .pre .1) (c .before .before .before .loop .inv .0),
+  omega (arith, trying-bounds (c .before .before .before .loop .inv .3 .trying) .target, trying-bounds (c .before .before .before .loop .inv .3 .trying) .rows, c .before .before .before .loop .inv .1, c .before .if1 .left),
+)
+
+same-length-2 : tie.Need-same-length-2 Inv-loop μ-loop
+same-length-2 c = search needs
+
+returns-2 : tie.Need-returns-2 Inv-loop μ-loop
+returns-2 c = turn-marks (c .before .before .before .before .before .before .loop .inv .3) (c .before .before .try-last .ensures)
+
+pub try-rows-spec : {M : Type 1} → statement M
+try-rows-spec =
+    tie.close
+    (tie.spec
+    Inv-loop
+    μ-loop
+    loop-holds
+    sub-if1
+    sub-if1-2
+    sub-n
+    try-full-requires
+    same-length
+    returns
+    add-from
+    loop-less
+    loop-again
+    sub-try-last
+    try-last-requires
+    same-length-2
+    returns-2)

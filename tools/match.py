@@ -1,0 +1,101 @@
+#!/usr/bin/env python3
+"""Writes the capture of a short match: batches of the strip's four columns (row number, side, event, player's name), as the court box
+sends them. usage: match.py CAPTURE [TABLE]: also writes what the program `court` must print, worked out on a plain list of the rows"""
+import struct
+import sys
+
+from edges import Capture, batch, column, inline, long
+from model import Coalescer
+
+U64, U8, UTF8 = 8, 5, 18
+OUT, REVIVE = 1, 2
+
+# side, event, player; a revive names nobody
+EVENTS = [
+    (1, OUT, 'Asha'), (1, OUT, 'Chitralekha Rao'), (2, OUT, 'Ishita'), (1, REVIVE, None), (2, OUT, 'Harini Subramanian'),
+    (2, OUT, 'Lata'), (1, OUT, 'Bhavani'), (2, REVIVE, None), (1, OUT, 'Gurpreet Kaur'), (1, OUT, 'Devika'), (2, OUT, 'Meenakshi Iyer'),
+    (1, REVIVE, None), (1, REVIVE, None), (2, OUT, 'Nandini'), (2, OUT, 'Oorvi Deshpande'), (2, REVIVE, None), (1, OUT, 'Asha'),
+    (2, REVIVE, None), (1, OUT, 'Chitralekha Rao'), (2, OUT, 'Ishita'), (1, REVIVE, None),
+]
+
+# how many rows the box sends at once; the six, over the limit of five, go whole
+BATCHES = [1, 2, 1, 3, 1, 6, 1, 1, 2, 2, 1]
+
+
+KINDS = (U64, U8, U8, UTF8)
+
+
+def columns_of(rows, first, number):
+    """The four columns of a batch, and the bytes of its long names, which lie in the buffer with this number."""
+    names, cells = b'', []
+    for _, _, player in rows:
+        text = (player or '').encode()
+        if len(text) <= 12:
+            cells.append(inline(text))
+        else:
+            cells.append(long(len(text), text[:4], 0, len(names)))
+            names += text
+    return [column([struct.pack('<Q', first + i) for i in range(len(rows))]), column([bytes([s]) for s, _, _ in rows]),
+            column([bytes([e]) for _, e, _ in rows]), column(cells, [1 if p else 0 for _, _, p in rows], 0, [number] if names else [])]
+
+
+def table():
+    """The match as the strip gets it: four rows at once; a batch over five rows with nothing buffered goes whole."""
+    out = ['rows the strip takes at once: 4', 'row  side   event   player']
+    beside = ' ' * 40
+    at, buffered = 0, []
+
+    def take(rows):
+        for number, (side, event, player) in rows:
+            out.append('%3d  %s  %s  %s' % (number, ('home ', 'away ')[side - 1], ('out   ', 'revive')[event - 1], player or '-'))
+        out.append('---- rows to the strip: %d' % len(rows))
+
+    for size in BATCHES:
+        out.append(beside + 'the box sends %d' % size)
+        rows = list(enumerate(EVENTS[at:at + size], at + 1))
+        at += size
+        if size > 5 and not buffered:
+            take(rows)
+            continue
+        buffered += rows
+        while len(buffered) >= 4:
+            take(buffered[:4])
+            buffered = buffered[4:]
+    out.append(beside + 'the match ends')
+    if buffered:
+        take(buffered)
+    return '\n'.join(out) + '\n'
+
+
+def main():
+    x, m = Capture(), Coalescer()
+    x.set_up(t=4, r=8, q=3, kinds=KINDS, b=4, n=16, p=65536)
+    m.lent, m.slots, m.pool = x.lengths, bytearray(65536), bytearray(65536)
+    m.set_up(4, 8, 3, list(KINDS), 4, 16, 65536)
+    x.limit(5)
+    m.w.limit = 5
+    at = 0
+    for size in BATCHES:
+        rows = EVENTS[at:at + size]
+        names = b''.join(p.encode() for _, _, p in rows if p and len(p) > 12)
+        number = 0
+        if names:
+            x.register(names)
+            number = m.register(names, len(names))
+        columns = columns_of(rows, at + 1, number)
+        x.push(size, *columns)
+        m.push(size, *batch(size, KINDS, columns))
+        while m.w.queued:
+            m.drop()
+        if names:
+            x.let_go(number)
+            m.let_go(number)
+        at += size
+    x.finish()
+    open(sys.argv[1], 'wb').write(x.data)
+    if len(sys.argv) > 2:
+        open(sys.argv[2], 'w').write(table())
+
+
+if __name__ == '__main__':
+    main()
