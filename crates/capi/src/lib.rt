@@ -14,21 +14,6 @@ use state::Limit;
 use state::Place;
 use state::RowAnswer;
 
-// Two numbers as one.
-fn both(refusal: u32, value: u32) -> u64
-    ensures { λ r. ⌜ r ≡ refusal * 4294967296 + value ⌝ }
-{
-    (refusal as u64) * 4294967296 + (value as u64)
-}
-
-// The state coded. `codes::decode` refuses bytes of another length, so that no call comes here with such.
-fn keep(state: &mut [u8], s: BatchCoalescer) {
-    if state.len() == 304 {
-        codes::encode(state, s);
-        return;
-    }
-}
-
 // The kinds that set-up is asked for, from words; 0 past the last.
 fn kinds_of(kinds: &[u8]) -> [u32; 16]
     requires { ⌜ length (now kinds) ≤ 64 ⌝ }
@@ -40,6 +25,47 @@ fn kinds_of(kinds: &[u8]) -> [u32; 16]
         c += 1;
     }
     all
+}
+
+// Where a value is, in five words: 1 in its row: the start in the slots, low word and high, 0, length; 2 in a buffer: its number, 0, offset,
+// length.
+fn put_place(out: &mut [u8], place: Place)
+    requires { ⌜ length (now out) ≡ 20 ⌝ }
+{
+    match place {
+        Place::InRow(start, n) => {
+            let low = (start % 4294967296) as u32;
+            let high = (start / 4294967296) as u32;
+            put_five(out, 1, low, high, 0, n.0);
+        }
+        Place::InBuffer(k, offset, n) => put_five(out, 2, k.0, 0, offset, n.0),
+    }
+}
+
+fn put_five(out: &mut [u8], a: u32, b: u32, c: u32, d: u32, e: u32)
+    requires { ⌜ length (now out) ≡ 20 ⌝ }
+{
+    words::put32(out, 0, a);
+    words::put32(out, 4, b);
+    words::put32(out, 8, c);
+    words::put32(out, 12, d);
+    words::put32(out, 16, e);
+}
+
+fn put_answer(out: &mut [u8], answer: RowAnswer) -> u32
+    requires { ⌜ length (now out) ≡ 20 ⌝ }
+{
+    match answer {
+        RowAnswer::Null => {
+            put_five(out, 0, 0, 0, 0, 0);
+            0
+        }
+        RowAnswer::Value(place) => {
+            put_place(out, place);
+            0
+        }
+        RowAnswer::Refused(number) => number,
+    }
 }
 
 // Set-up. `kinds` are words of 4 bytes, one a column. 0, or 1 and nothing changed.
@@ -233,37 +259,6 @@ pub extern "C" fn pw_read_buffer(
     size
 }
 
-// As many bytes of one slice as both have, at the front of the other.
-fn copy_front(out: &mut [u8], part: &[u8]) {
-    let n = counts::smaller(out.len() as u64, part.len() as u64) as usize;
-    words::put_part(out, 0, part, 0, n);
-}
-
-// Where a value is, in five words: 1 in its row: the start in the slots, low word and high, 0, length; 2 in a buffer: its number, 0, offset,
-// length.
-fn put_place(out: &mut [u8], place: Place)
-    requires { ⌜ length (now out) ≡ 20 ⌝ }
-{
-    match place {
-        Place::InRow(start, n) => {
-            let low = (start % 4294967296) as u32;
-            let high = (start / 4294967296) as u32;
-            put_five(out, 1, low, high, 0, n.0);
-        }
-        Place::InBuffer(k, offset, n) => put_five(out, 2, k.0, 0, offset, n.0),
-    }
-}
-
-fn put_five(out: &mut [u8], a: u32, b: u32, c: u32, d: u32, e: u32)
-    requires { ⌜ length (now out) ≡ 20 ⌝ }
-{
-    words::put32(out, 0, a);
-    words::put32(out, 4, b);
-    words::put32(out, 8, c);
-    words::put32(out, 12, d);
-    words::put32(out, 16, e);
-}
-
 // Row `row` of column `column` of the front batch, in the 20 bytes of `out`: five words, the first 0 for null. 0, or the number of the
 // refusal and nothing written; 1 where `out` is not of 20 bytes.
 #[no_mangle]
@@ -284,40 +279,6 @@ pub extern "C" fn pw_read_row(
     }
 }
 
-// What reading a row answers, or the refusal of bytes that code no state.
-fn row_answer(
-    state: &[u8],
-    slots: &[u8],
-    pool: &[u8],
-    books: &[u8],
-    column: u32,
-    row: u32,
-) -> RowAnswer {
-    let coded = codes::decode(state);
-    if coded.number == 0 {
-        let s = coded.state;
-        reads::read_row(s, slots, pool, books, column, row)
-    } else {
-        RowAnswer::Refused(coded.number)
-    }
-}
-
-fn put_answer(out: &mut [u8], answer: RowAnswer) -> u32
-    requires { ⌜ length (now out) ≡ 20 ⌝ }
-{
-    match answer {
-        RowAnswer::Null => {
-            put_five(out, 0, 0, 0, 0, 0);
-            0
-        }
-        RowAnswer::Value(place) => {
-            put_place(out, place);
-            0
-        }
-        RowAnswer::Refused(number) => number,
-    }
-}
-
 // The limit set to so many rows, or unset where `set` is 0: 0, or the number of the refusal of bytes that code no state.
 #[no_mangle]
 pub extern "C" fn pw_set_biggest_coalesce_batch_size(state: &mut [u8], set: u32, rows: u32) -> u32 {
@@ -329,14 +290,6 @@ pub extern "C" fn pw_set_biggest_coalesce_batch_size(state: &mut [u8], set: u32,
     let limit = limit_for(set, rows);
     keep(state, reads::set_biggest_coalesce_batch_size(s, limit));
     0
-}
-
-fn limit_for(set: u32, rows: u32) -> Limit {
-    if set == 0 {
-        Limit::Unset
-    } else {
-        Limit::Rows(RowCount(rows))
-    }
 }
 
 // The limit: 1 in the upper 32 bits where one is set, and its rows in the lower.
@@ -373,4 +326,51 @@ pub extern "C" fn pw_has_completed_batch(state: &[u8]) -> u32 {
 pub extern "C" fn pw_is_empty(state: &[u8]) -> u32 {
     let coded = codes::decode(state);
     if reads::is_empty(coded.state) { 1 } else { 0 }
+}
+
+// Two numbers as one.
+fn both(refusal: u32, value: u32) -> u64
+    ensures { λ r. ⌜ r ≡ refusal * 4294967296 + value ⌝ }
+{
+    (refusal as u64) * 4294967296 + (value as u64)
+}
+
+// The state coded. `codes::decode` refuses bytes of another length, so that no call comes here with such.
+fn keep(state: &mut [u8], s: BatchCoalescer) {
+    if state.len() == 304 {
+        codes::encode(state, s);
+        return;
+    }
+}
+
+// As many bytes of one slice as both have, at the front of the other.
+fn copy_front(out: &mut [u8], part: &[u8]) {
+    let n = counts::smaller(out.len() as u64, part.len() as u64) as usize;
+    words::put_part(out, 0, part, 0, n);
+}
+
+// What reading a row answers, or the refusal of bytes that code no state.
+fn row_answer(
+    state: &[u8],
+    slots: &[u8],
+    pool: &[u8],
+    books: &[u8],
+    column: u32,
+    row: u32,
+) -> RowAnswer {
+    let coded = codes::decode(state);
+    if coded.number == 0 {
+        let s = coded.state;
+        reads::read_row(s, slots, pool, books, column, row)
+    } else {
+        RowAnswer::Refused(coded.number)
+    }
+}
+
+fn limit_for(set: u32, rows: u32) -> Limit {
+    if set == 0 {
+        Limit::Unset
+    } else {
+        Limit::Rows(RowCount(rows))
+    }
 }
