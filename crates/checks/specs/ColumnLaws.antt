@@ -8,11 +8,11 @@ use native.Mathlib.Omega.{arith}
 use lib.ListN.{length}
 use Rattle.search.specs.First.{first}
 use Rattle.search.specs.FirstLaws.{at-says}
-use Rattle.kinds.specs.Kind.{isView}
+use Rattle.kinds.specs.Kind.{isView, widthAt}
 use Rattle.state.specs.declared.BatchCoalescer.{BatchCoalescer}
 use Rattle.state.specs.declared.Column.{Column}
 use Rattle.state.specs.World.{World, world, columnOf}
-use Rattle.state.specs.Layout.{widthOf, isViews}
+use Rattle.state.specs.Layout.{bytesIn, widthOf, isViews}
 use Rattle.state.specs.LayoutLaws.{views-width}
 use Rattle.rules.specs.declared.ColumnRecord.{ColumnRecord}
 use Rattle.rules.specs.declared.Fault.{Fault}
@@ -60,9 +60,13 @@ module _ (s : BatchCoalescer) (pool books records body : List ℕ) (rows c : ℕ
     unfolding keepsRules recordOf
     rules-is e = rw (read, at) at e
 
-    lies-is : {x : Bool} {width : ℕ} → width ≡ widthOf s c → x ≡ liesWithin r rows width (length body) → x ≡ liesInBody W B c
+    wide : {width : ℕ} → width ≡ bytesIn (widthAt (k .kind)) → width ≡ widthOf s c
+    unfolding widthOf
+    wide e = rw at at e
+
+    lies-is : {x : Bool} {width : ℕ} → width ≡ bytesIn (widthAt (k .kind)) → x ≡ liesWithin r rows width (length body) → x ≡ liesInBody W B c
     unfolding liesInBody recordOf
-    lies-is p e = rw (read, p) at e
+    lies-is p e = rw (read, wide p) at e
 
     held-is : {x : Bool} → x ≡ heldAll books body (r .list) (r .count) → x ≡ allHeld W B c
     unfolding allHeld recordOf
@@ -77,16 +81,16 @@ module _ (s : BatchCoalescer) (pool books records body : List ℕ) (rows c : ℕ
     at-four e z q = q ∙ sym (ap faultOf (column-four W B c (sym (rules-is e) ∙ z)))
 
     module _ {x : Bool} (ruled : x ≡ isRuled r (k .kind)) (yes-ruled : x ≡ true) where
-      pub at-five : {y : Bool} {width : ℕ} {f : Fault} → width ≡ widthOf s c → y ≡ liesWithin r rows width (length body) → y ≡ false → f ≡ faultAt 5 c 0 → f ≡ faultOf (columnFault W B c)
+      pub at-five : {y : Bool} {width : ℕ} {f : Fault} → width ≡ bytesIn (widthAt (k .kind)) → y ≡ liesWithin r rows width (length body) → y ≡ false → f ≡ faultAt 5 c 0 → f ≡ faultOf (columnFault W B c)
       at-five p e z q = q ∙ sym (ap faultOf (column-five W B c (sym (rules-is ruled) ∙ yes-ruled) (sym (lies-is p e) ∙ z)))
 
-      module _ {y : Bool} {width : ℕ} (wide : width ≡ widthOf s c) (lies : y ≡ liesWithin r rows width (length body)) (yes-lies : y ≡ true) where
+      module _ {y : Bool} {width : ℕ} (wide-is : width ≡ bytesIn (widthAt (k .kind))) (lies : y ≡ liesWithin r rows width (length body)) (yes-lies : y ≡ true) where
         pub at-six : {z : Bool} {f : Fault} → z ≡ heldAll books body (r .list) (r .count) → z ≡ false → f ≡ faultAt 6 c 0 → f ≡ faultOf (columnFault W B c)
         at-six e n q =
             q
             ∙ sym
             (ap faultOf
-            (column-six W B c (sym (rules-is ruled) ∙ yes-ruled) (sym (lies-is wide lies) ∙ yes-lies) (sym (held-is e) ∙ n)))
+            (column-six W B c (sym (rules-is ruled) ∙ yes-ruled) (sym (lies-is wide-is lies) ∙ yes-lies) (sym (held-is e) ∙ n)))
 
         module _ {z v : Bool} (held : z ≡ heldAll books body (r .list) (r .count)) (yes-held : z ≡ true) (view : v ≡ isView (k .kind)) where
           -- a column of no views has no bad row
@@ -95,7 +99,7 @@ module _ (s : BatchCoalescer) (pool books records body : List ℕ) (rows c : ℕ
               q
               ∙ sym
               (ap faultOf
-              (column-none W B c (sym (rules-is ruled) ∙ yes-ruled) (sym (lies-is wide lies) ∙ yes-lies) (sym (held-is held) ∙ yes-held)
+              (column-none W B c (sym (rules-is ruled) ∙ yes-ruled) (sym (lies-is wide-is lies) ∙ yes-lies) (sym (held-is held) ∙ yes-held)
               (λ i l. no-view-row s pool books records body rows c (sym (views-are view) ∙ n) i)))
 
           -- a column of views has the fault of its first bad row
@@ -104,12 +108,12 @@ module _ (s : BatchCoalescer) (pool books records body : List ℕ) (rows c : ℕ
           views-rows y q =
               q
               ∙ sym
-              (rw (sym (rules-is ruled) ∙ yes-ruled, sym (lies-is wide lies) ∙ yes-lies, sym (held-is held) ∙ yes-held, read, bad-row-is s pool books records body rows c (sym (views-are view) ∙ y))
+              (rw (sym (rules-is ruled) ∙ yes-ruled, sym (lies-is wide-is lies) ∙ yes-lies, sym (held-is held) ∙ yes-held, read, bad-row-is s pool books records body rows c (sym (views-are view) ∙ y))
               (row-fault-is c rows (badAt books pool body (recordOf (batch 0 records []) c))))
 
 -- what the rows' function asks: 16 bytes of each row lie in the body
-pub rows-in : (s : BatchCoalescer) (c : ℕ) (r : ColumnRecord) (rows size : ℕ) {k : Column} {width : ℕ} {y v : Bool} → k ≡ columnOf s c → width ≡ widthOf s c → y ≡ liesWithin r rows width size → y ≡ true → v ≡ isView (k .kind) → v ≡ true → inBody (r .values) (rows * 16) size ≡ true
-unfolding isViews
+pub rows-in : (s : BatchCoalescer) (c : ℕ) (r : ColumnRecord) (rows size : ℕ) {k : Column} {width : ℕ} {y v : Bool} → k ≡ columnOf s c → width ≡ bytesIn (widthAt (k .kind)) → y ≡ liesWithin r rows width size → y ≡ true → v ≡ isView (k .kind) → v ≡ true → inBody (r .values) (rows * 16) size ≡ true
+unfolding isViews widthOf
 rows-in s c r rows size {k} {width} p q e z f y =
     let i : isViews s c ≡ true = ap (λ (x : Column). isView (x .kind)) (sym p) ∙ sym f ∙ y in
-    rw (q ∙ views-width s c i) at (values-in r rows width size e z)
+    rw (q ∙ ap (λ (x : Column). bytesIn (widthAt (x .kind))) p ∙ views-width s c i) at (values-in r rows width size e z)

@@ -7,7 +7,7 @@ ghost use Prim.Native.Nat.{_+_, _*_, _≤_, _<_, _^_};
 ghost use lib.ListN.{length};
 ghost use Rattle.books.specs.Entry.{usedOf};
 ghost use Rattle.pool.specs.Register.{isHeld};
-ghost use Rattle.state.specs.World.{world};
+ghost use Rattle.state.specs.World.{world, columnOf};
 ghost use Rattle.rules.specs.Batch.{batch, recordOf};
 ghost use Rattle.views.specs.View.{isValid};
 ghost use Rattle.rules.specs.Batch.{bytesListed};
@@ -17,6 +17,7 @@ use counts::ByteCount;
 use rules::ColumnRecord;
 use rules::Fault;
 use state::BatchCoalescer;
+use state::Column;
 use views::Buffer;
 use views::View;
 
@@ -237,6 +238,7 @@ fn row_fault(books: &[u8], pool: &[u8], body: &[u8], r: ColumnRecord, rows: u32,
 // The first fault of column c.
 fn column_fault(
     s: BatchCoalescer,
+    column: Column,
     pool: &[u8],
     books: &[u8],
     records: &[u8],
@@ -244,11 +246,11 @@ fn column_fault(
     rows: u32,
     c: u32,
 ) -> Fault
-    requires { ⌜ (Pooled (now books) (now pool)) × (s .columns ≤ 16) × (c < s .columns) × (rows ≤ 65536) × (32 * s .columns ≤ length (now records)) ⌝ }
+    requires { ⌜ (Pooled (now books) (now pool)) × (s .columns ≤ 16) × (c < s .columns) × (rows ≤ 65536) × (32 * s .columns ≤ length (now records)) × (column ≡ columnOf s c) ⌝ }
     ensures { λ f. ⌜ f ≡ faultOf (columnFault (world s [] (now (pool .entry)) (now (books .entry))) (batch rows (now (records .entry)) (now (body .entry))) c) ⌝ }
 {
-    let kind = layout::column_of(s, c).kind;
-    let width = layout::width_of(s, c) as u32;
+    let kind = column.kind;
+    let width = layout::width_in(kind) as u32;
     let r = record_at(records, c);
     if keeps_rules(r, kind) {
         if lies_in_body(r, rows, width, body.len() as u64) {
@@ -287,7 +289,9 @@ pub fn batch_fault(
         }
         let mut c: u32 = 0;
         while c < s.columns {
-            let f = column_fault(s, pool, books, records, body, rows, c);
+            let at = c as usize;
+            let column = s.column[at];
+            let f = column_fault(s, column, pool, books, records, body, rows, c);
             if f.number == 0 {
                 c += 1;
             } else {

@@ -82,6 +82,11 @@ module _ (s : BatchCoalescer) (slots books : List ℕ) (slot : ℕ) where
           )
 
   -- what drop_list asks of its calls
+  -- an empty list takes nothing away
+  pub off-none : (c : ℕ) {n : ℕ} → n ≡ listLength (world s [] [] books) slot c → n ≡ 0 → books ≡ listOff s slots books slot c
+  unfolding listOff overList
+  off-none c p e = rw (← p, e)
+
   module _ (d : Droppable s slots books slot) where
     pub off-slot : slot ≤ 1024
     off-slot = let f = d .few in let q = d .in-slots in omega (arith, f .queue)

@@ -28,6 +28,9 @@ fn drop_list(s: BatchCoalescer, slots: &[u8], books: &mut [u8], slot: u32, c: u3
     ensures { λ _. ⌜ now (books .exit) ≡ listOff s (now (slots .entry)) (now (books .entry)) slot c ⌝ }
 {
     let n = ranges::list_length(s, books, slot, c);
+    if n == 0 {
+        return;
+    }
     let from = layout::list_place(s, slot, c);
     let end = from + 4 * (n as usize);
     listings::unlist_all(books, s.numbers, &slots[from..end], n as usize);

@@ -101,6 +101,11 @@ pub columns-more : (s : BatchCoalescer) (c : ℕ) {sum r : ℕ} → sum ≡ colu
 unfolding sizeOfKind valuesBytes widthOf bitmapBytes listBytes isViews
 columns-more s c h p = rw (h, p) (sym (columns-next s c) ∙ ap (columnsBytes s) (omega arith))
 
+-- column c of the array is column c of the state
+pub column-is : (s : BatchCoalescer) (c : ℕ) → getD (s .column) c noColumn ≡ columnOf s c
+unfolding columnOf
+column-is s c = refl
+
 pub column-kind : (s : BatchCoalescer) (c : ℕ) {sum r : ℕ} → sum ≡ columnsBytes s c → r ≡ sizeOfKind (getD (s .column) c noColumn .kind) (s .rows .0) (s .lists) → sum + r ≡ columnsBytes s (c + 1)
 unfolding columnOf
 column-kind s c h p = columns-more s c h p

@@ -20,7 +20,7 @@ pub fn column_of(s: BatchCoalescer, c: u32) -> Column
 }
 
 // The bytes of one row of a kind, and of column c.
-fn width_in(kind: u32) -> usize
+pub fn width_in(kind: u32) -> usize
     ensures { λ r. ⌜ (r ≡ bytesIn (widthAt kind)) × (r ≤ 32) ⌝ }
 {
     let width = kinds::width_of(kind);

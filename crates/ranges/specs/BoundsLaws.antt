@@ -3,14 +3,14 @@ use Prim.Native.Nat.{ℕ, _+_, _≤_, _<_, _^_}
 use mathlib.Core.Path.{_≡_, refl, sym, _∙_, ap}
 use mathlib.Core.Bool.{Bool, true, false, _&&_, and-eq-true-iff}
 use native.Mathlib.Omega.{arith}
+use lib.ListN.{getD}
 use lib.Dec.{leb, eqb}
 use borrow.Author.Tests.{leb-true, le-leb, lt-leb, eqb-true, eq-eqb, ne-eqb}
 use Rattle.search.specs.Every.{every, All, all-none, all-more, all-fails, all-done}
 use Rattle.kinds.specs.declared.Width.{Width}
 use Rattle.kinds.specs.Kind.{widthAt}
 use Rattle.state.specs.declared.BatchCoalescer.{BatchCoalescer}
-use Rattle.state.specs.declared.Column.{Column}
-use Rattle.state.specs.World.{columnOf}
+use Rattle.state.specs.World.{columnOf, noColumn}
 use Rattle.state.specs.Layout.{slotsLength, booksLength}
 use Rattle.layout.specs.Few.{Few}
 use Rattle.rules.specs.Ranges.{isKind, between, inBounds}
@@ -40,16 +40,16 @@ module _ (s : BatchCoalescer) where
   pub known-none : All (known s) 0
   known-none = all-none (known s)
 
-  known-is : (c : ℕ) {k : Column} {w : Width} → k ≡ columnOf s c → w ≡ widthAt (k .kind) → known s c ≡ isKind w
-  unfolding known
-  known-is c p q = ap isKind (ap (λ (x : Column). widthAt (x .kind)) (sym p) ∙ sym q)
+  known-is : (c : ℕ) {w : Width} → w ≡ widthAt (getD (s .column) c noColumn .kind) → known s c ≡ isKind w
+  unfolding known columnOf
+  known-is c q = ap isKind (sym q)
 
-  pub known-more : (c : ℕ) {n : ℕ} {k : Column} {w : Width} → All (known s) c → k ≡ columnOf s c → w ≡ widthAt (k .kind) → w ≡ Width.Bytes n → All (known s) (c + 1)
-  known-more c a p q r = all-more a (known-is c p q ∙ ap isKind r)
+  pub known-more : (c : ℕ) {n : ℕ} {w : Width} → All (known s) c → w ≡ widthAt (getD (s .column) c noColumn .kind) → w ≡ Width.Bytes n → All (known s) (c + 1)
+  known-more c a q r = all-more a (known-is c q ∙ ap isKind r)
 
-  pub known-fails : (c : ℕ) {k : Column} {w : Width} → c < s .columns → k ≡ columnOf s c → w ≡ widthAt (k .kind) → w ≡ Width.NoKind → false ≡ kindsKnown s
+  pub known-fails : (c : ℕ) {w : Width} → c < s .columns → w ≡ widthAt (getD (s .column) c noColumn .kind) → w ≡ Width.NoKind → false ≡ kindsKnown s
   unfolding kindsKnown known
-  known-fails c l p q r = all-fails (known s) (s .columns) c l (known-is c p q ∙ ap isKind r)
+  known-fails c l q r = all-fails (known s) (s .columns) c l (known-is c q ∙ ap isKind r)
 
   pub known-done : (c : ℕ) → All (known s) c → s .columns ≤ c → true ≡ kindsKnown s
   unfolding kindsKnown known

@@ -1,18 +1,19 @@
 -- The ways out of the test of 14, the turns of its loops, and the places that it reads.
 use Prim.Native.Nat.{ℕ, zero, suc, _+_, _*_, _≤_, _<_}
 use mathlib.Core.Path.{_≡_, refl, sym, _∙_}
-use mathlib.Core.Bool.{Bool, true, false, _&&_}
+use mathlib.Core.Bool.{Bool, true, false, _&&_, cond}
 use mathlib.Core.List.{List, []}
 use native.Mathlib.Omega.{arith}
 use native.Mathlib.Nat.{mul-le-mul-left}
 use lib.ListN.{length}
-use lib.Dec.{ltb, leb, eqb}
-use borrow.Author.Tests.{lt-ltb, le-ltb, le-leb, lt-leb, ne-eqb}
+use lib.Dec.{ltb, leb}
+use borrow.Author.Tests.{lt-ltb, le-ltb, le-leb, lt-leb}
 use Rattle.search.specs.Every.{every, All, all-none, all-more, all-fails, all-done}
 use Rattle.words.specs.Word.{word32}
 use Rattle.tallies.specs.declared.Tally.{Tally}
 use Rattle.tallies.specs.Tally.{tallyPlace, tallyOf}
 use Rattle.books.specs.Entry.{usedOf}
+use Rattle.kinds.specs.Kind.{isView}
 use Rattle.pool.specs.Read.{inRange}
 use Rattle.counts.specs.declared.BufferNumber.{BufferNumber}
 use Rattle.state.specs.declared.BatchCoalescer.{BatchCoalescer}
@@ -68,19 +69,19 @@ module _ (used list room : ℕ) {b : OpenBlock} where
   block-past {k} e h = rw (e, le-ltb (k .0) used h)
 
 -- column_in_range and columns_in_range
-module _ (s : BatchCoalescer) (books : List ℕ) (c : ℕ) {v : Bool} (p : v ≡ isViews s c) where
+module _ (s : BatchCoalescer) (books : List ℕ) (c : ℕ) {k : Column} {v : Bool} (q : k ≡ columnOf s c) (p : v ≡ isView (k .kind)) where
   pub column-other : v ≡ false → true ≡ columnInRange (world s [] [] books) c
-  unfolding columnInRange
-  column-other x = rw (← p, x)
+  unfolding columnInRange isViews
+  column-other x = rw (← q, ← p, x)
 
-  module _ (x : v ≡ true) {k : Column} {a : Bool} (q : k ≡ columnOf s c) (r : a ≡ between 4096 (k .source .current .0) 1048576) where
+  module _ (x : v ≡ true) {a : Bool} (r : a ≡ between 4096 (k .source .current .0) 1048576) where
     pub column-size : a ≡ false → false ≡ columnInRange (world s [] [] books) c
-    unfolding columnInRange
-    column-size y = rw (← p, x, ← q, ← r, y)
+    unfolding columnInRange isViews
+    column-size y = rw (← q, ← p, x, ← r, y)
 
     pub column-last : {u l : ℕ} {b : Bool} → a ≡ true → u ≡ word32 books 0 → l ≡ listLength (world s [] [] books) (s .place) c → b ≡ blockInRange u l (s .lists) (k .block) → b ≡ columnInRange (world s [] [] books) c
-    unfolding columnInRange usedOf
-    column-last y h i j = rw (← p, x, ← q, ← r, y, ← h, ← i) j
+    unfolding columnInRange isViews usedOf
+    column-last y h i j = rw (← q, ← p, x, ← r, y, ← h, ← i) j
 
 module _ (s : BatchCoalescer) (books : List ℕ) where
   pub columns-none : All (columnInRange (world s [] [] books)) 0
@@ -116,16 +117,16 @@ module _ (l : List ℕ) (at n : ℕ) where
   lower-done i count a h = all-done count a h
 
 -- list_in_range
-empty-list : (p : ℕ → Bool) (k : ℕ) → eqb k 0 ≡ (leb k 0 && every p k)
-unfolding every
-empty-list p zero = refl
-empty-list p (suc k) = rw (ne-eqb (suc k) 0 (λ e. absurd (omega arith)), lt-leb (suc k) 0 (omega arith))
+-- no number is listed
+pub list-empty : (s : BatchCoalescer) (slots books : List ℕ) (slot c : ℕ) {n : ℕ} → n ≡ listLength (world s [] [] books) slot c → n ≡ 0 → true ≡ listInRange (world s slots [] books) slot c
+unfolding listInRange listLength every
+list-empty s slots books slot c p e = rw (← p, e, le-leb 0 (cond (isViews s c) (s .lists) 0) (omega arith))
 
 module _ (s : BatchCoalescer) (slots books : List ℕ) (slot c : ℕ) {v : Bool} {n : ℕ} (p : n ≡ listLength (world s [] [] books) slot c) (q : v ≡ isViews s c) where
-  -- a column that is not of views
-  pub list-none : v ≡ false → eqb n 0 ≡ listInRange (world s slots [] books) slot c
+  -- some are, in a column that is not of views
+  pub list-none : v ≡ false → (n ≡ 0 → ⊥) → false ≡ listInRange (world s slots [] books) slot c
   unfolding listInRange listLength
-  list-none x = rw (← q, x, ← p) (empty-list (λ i. ltb (word32 slots (listPlace s slot c + 4 * i)) (s .numbers)) n)
+  list-none x h = rw (← q, x, ← p, lt-leb n 0 (omega arith))
 
   pub list-long : v ≡ true → s .lists < n → false ≡ listInRange (world s slots [] books) slot c
   unfolding listInRange listLength

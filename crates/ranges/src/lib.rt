@@ -4,13 +4,14 @@ ghost use mathlib.Core.List.{[]};
 ghost use Prim.Native.Nat.{_+_, _*_, _≤_, _<_};
 ghost use lib.ListN.{length};
 ghost use Rattle.search.specs.Every.{every};
-ghost use Rattle.state.specs.World.{world};
+ghost use Rattle.state.specs.World.{world, columnOf};
 ghost use Rattle.state.specs.Layout.{slotsLength, booksLength};
 ghost use Rattle.layout.specs.Few.{Few};
 ghost use Rattle.rules.specs.Ranges.{inBounds, blockInRange, columnInRange, listInRange, slotInRange, stateInRange, tested};
 ghost use Rattle.ranges.specs.Tested.{kindsKnown, fitsLengths, below, Sized};
 use kinds::Width;
 use state::BatchCoalescer;
+use state::Column;
 use state::OpenBlock;
 use tallies::Tally;
 
@@ -21,7 +22,9 @@ fn kinds_known(s: BatchCoalescer) -> bool
 {
     let mut c: u32 = 0;
     while c < s.columns {
-        let width = kinds::width_of(layout::column_of(s, c).kind);
+        let at = c as usize;
+        let column = s.column[at];
+        let width = kinds::width_of(column.kind);
         let Width::Bytes(_) = width else {
             return false;
         };
@@ -124,13 +127,12 @@ fn block_in_range(used: u32, list: u32, room: u32, block: OpenBlock) -> bool
     }
 }
 
-// 14, a column: its kept block size and its open block.
-fn column_in_range(s: BatchCoalescer, books: &[u8], c: u32) -> bool
-    requires { ⌜ (Few s) × (s .place ≤ s .queue) × (c < s .columns) × (length (now books) ≡ booksLength s) ⌝ }
+// 14, column c: its kept block size and its open block.
+fn column_in_range(s: BatchCoalescer, books: &[u8], c: u32, column: Column) -> bool
+    requires { ⌜ (Few s) × (s .place ≤ s .queue) × (c < s .columns) × (length (now books) ≡ booksLength s) × (column ≡ columnOf s c) ⌝ }
     ensures { λ r. ⌜ r ≡ columnInRange (world s [] [] (now (books .entry))) c ⌝ }
 {
-    if layout::is_views(s, c) {
-        let column = layout::column_of(s, c);
+    if kinds::is_view(column.kind) {
         if between(4096, column.source.current.0, 1048576) {
             let used = words::get32(books, 0);
             let list = list_length(s, books, s.place, c);
@@ -150,7 +152,9 @@ fn columns_in_range(s: BatchCoalescer, books: &[u8]) -> bool
 {
     let mut c: u32 = 0;
     while c < s.columns {
-        if column_in_range(s, books, c) {
+        let at = c as usize;
+        let column = s.column[at];
+        if column_in_range(s, books, c, column) {
             c += 1;
         } else {
             return false;
@@ -175,12 +179,15 @@ fn words_below(s: &[u8], at: usize, count: u32, n: u32) -> bool
     true
 }
 
-// 14, a list: within B, and each number below N; a column that is not of views has none.
+// 14, a list: within B, and each number below N; a column that is not of views has none. Most lists are empty: that is looked at first.
 fn list_in_range(s: BatchCoalescer, slots: &[u8], books: &[u8], slot: u32, c: u32) -> bool
     requires { ⌜ (Sized s (length (now slots)) (length (now books))) × (slot ≤ s .queue) × (c < s .columns) ⌝ }
     ensures { λ r. ⌜ r ≡ listInRange (world s (now (slots .entry)) [] (now (books .entry))) slot c ⌝ }
 {
     let count = list_length(s, books, slot, c);
+    if count == 0 {
+        return true;
+    }
     if layout::is_views(s, c) {
         if count <= s.lists {
             words_below(slots, layout::list_place(s, slot, c), count, s.numbers)
@@ -188,7 +195,7 @@ fn list_in_range(s: BatchCoalescer, slots: &[u8], books: &[u8], slot: u32, c: u3
             false
         }
     } else {
-        count == 0
+        false
     }
 }
 

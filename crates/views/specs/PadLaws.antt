@@ -1,14 +1,14 @@
 -- Padding: the bytes of a view behind its own, a word at a time, as the code looks at them.
 use Prim.Native.Nat.{ℕ, zero, suc, _+_, _-_, _*_, _/_, _%_, _≤_, _<_}
 use mathlib.Core.Path.{_≡_, refl, sym, _∙_, ap}
-use mathlib.Core.Bool.{Bool, true, false, _&&_, and-eq-true-iff}
+use mathlib.Core.Bool.{Bool, true, false, _&&_, cond, and-eq-true-iff}
 use mathlib.Core.List.{List, [], _∷_, _++_}
 use native.Mathlib.Omega.{arith}
 use native.Mathlib.Decide.{decLt}
 use lib.ListN.{length, getD, List·getD-append}
 use lib.Seq.{getD-append-add}
 use lib.Dec.{ltb, leb, eqb}
-use borrow.Author.Tests.{ltb-true, eqb-true, lt-ltb, eq-eqb}
+use borrow.Author.Tests.{ltb-true, eqb-true, lt-ltb, le-ltb, eq-eqb}
 use Rattle.search.specs.Cases.{same-test, both, both-fails, both-rest}
 use Rattle.search.specs.Every.{every, every-says, every-is}
 use Rattle.views.specs.declared.View.{View}
@@ -93,21 +93,34 @@ low0 : (w : ℕ) → w ≡ 0 → Clear w 0
 low0 w e zero a b = rw e
 low0 w e (suc j) a b = low1 w (omega arith) (suc j) (omega arith) b
 
--- the ways out of clear_from
-pub clear-0 : (w k : ℕ) → k ≡ 0 → eqb w 0 ≡ clearFrom w k
-clear-0 w k e = rw e (same-test _ _ (λ t. clear-is w 0 (low0 w (eqb-true w 0 t))) (λ t. eq-eqb w 0 (top0 w (clear-says w 0 t))))
+-- clear_from: the place of k in a table of five, and the table
+abbrev pub placeOf : ℕ → ℕ
+placeOf k = cond (ltb k 4) k 4
 
-pub clear-1 : (w k : ℕ) → k ≡ 1 → ltb w 256 ≡ clearFrom w k
-clear-1 w k e = rw e (same-test _ _ (λ t. clear-is w 1 (low1 w (ltb-true w 256 t))) (λ t. lt-ltb w 256 (top1 w (clear-says w 1 t))))
+pub place-low : (k : ℕ) → k < 4 → k ≡ placeOf k
+place-low k h = rw (lt-ltb k 4 h)
 
-pub clear-2 : (w k : ℕ) → k ≡ 2 → ltb w 65536 ≡ clearFrom w k
-clear-2 w k e = rw e (same-test _ _ (λ t. clear-is w 2 (low2 w (ltb-true w 65536 t))) (λ t. lt-ltb w 65536 (top2 w (clear-says w 2 t))))
+pub place-high : (k : ℕ) → 4 ≤ k → 4 ≡ placeOf k
+place-high k h = rw (le-ltb k 4 h)
 
-pub clear-3 : (w k : ℕ) → k ≡ 3 → ltb w 16777216 ≡ clearFrom w k
-clear-3 w k e = rw e (same-test _ _ (λ t. clear-is w 3 (low3 w (ltb-true w 16777216 t))) (λ t. lt-ltb w 16777216 (top3 w (clear-says w 3 t))))
+-- a word is below the table's entry exactly where its bytes from k on are zero
+abbrev Below : ℕ → ℕ → Type 0
+Below w k = ltb w (getD (1 ∷ 256 ∷ 65536 ∷ 16777216 ∷ 4294967296 ∷ []) (placeOf k) 0) ≡ clearFrom w k
 
-pub clear-4 : (w k : ℕ) → (k ≡ 0 → ⊥) → (k ≡ 1 → ⊥) → (k ≡ 2 → ⊥) → (k ≡ 3 → ⊥) → true ≡ clearFrom w k
-clear-4 w k a b c d = sym (clear-is w k (λ j p q. absurd (omega arith)))
+clear-more : (w k : ℕ) → w < 4294967296 → 4 ≤ k → Below w k
+clear-more w k f h = rw (le-ltb k 4 h, lt-ltb w 4294967296 f) (sym (clear-is w k (λ j p q. absurd (omega arith))))
+
+clear-below : (w k : ℕ) → w < 4294967296 → Below w k
+clear-below w zero f = same-test _ _ (λ t. clear-is w 0 (low0 w (omega (arith, ltb-true w 1 t)))) (λ t. lt-ltb w 1 (omega (arith, top0 w (clear-says w 0 t))))
+clear-below w (suc zero) f = same-test _ _ (λ t. clear-is w 1 (low1 w (ltb-true w 256 t))) (λ t. lt-ltb w 256 (top1 w (clear-says w 1 t)))
+clear-below w (suc (suc zero)) f =
+    same-test _ _ (λ t. clear-is w 2 (low2 w (ltb-true w 65536 t))) (λ t. lt-ltb w 65536 (top2 w (clear-says w 2 t)))
+clear-below w (suc (suc (suc zero))) f =
+    same-test _ _ (λ t. clear-is w 3 (low3 w (ltb-true w 16777216 t))) (λ t. lt-ltb w 16777216 (top3 w (clear-says w 3 t)))
+clear-below w (suc (suc (suc (suc k)))) f = clear-more w (suc (suc (suc (suc k)))) f (omega arith)
+
+pub clear-table : (w k : ℕ) {p : ℕ} → w < 4294967296 → p ≡ placeOf k → ltb w (getD (1 ∷ 256 ∷ 65536 ∷ 16777216 ∷ 4294967296 ∷ []) p 0) ≡ clearFrom w k
+clear-table w k f e = rw e (clear-below w k f)
 
 -- the 12 bytes by words
 pub inline-prefix : (v : View) (j : ℕ) → j < 4 → getD (inlineBytes v) j 0 ≡ getD (bytesOf (v .prefix)) j 0

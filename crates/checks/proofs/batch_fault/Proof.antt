@@ -4,14 +4,15 @@ use borrow.Author.Needs.{needs}
 use Rattle.search.specs.First.{Passed}
 use Rattle.checks.specs.BatchLaws.{wrong-records, many-rows, faulty-none, faulty-more, faulty-at, faulty-all}
 use Rattle.checks.specs.Checked.{faultyAt}
+use Rattle.layout.specs.ExitLaws.{column-is}
 use Rattle.checks.proofs.batch_fault.Statement.{statement}
 use Rattle.checks.proofs.batch_fault.Tie as tie
 
 abbrev Inv-loop : tie.InvT-loop
-Inv-loop s pool books records body rows c₀ c = (c ≤ s .columns) × Passed (faultyAt s pool books records body rows) c
+Inv-loop pool books records body rows s c₀ c = (c ≤ s .columns) × Passed (faultyAt s pool books records body rows) c
 
 abbrev μ-loop : tie.MeasureT-loop
-μ-loop s pool books records body rows c₀ c = s .columns - c
+μ-loop pool books records body rows s c₀ c = s .columns - c
 
 cast-if1 : tie.Need-cast-if1 Inv-loop μ-loop
 cast-if1 c = search needs
@@ -28,8 +29,17 @@ returns c = search (many-rows, needs)
 loop-holds : tie.Need-loop-holds Inv-loop μ-loop
 loop-holds c = search (faulty-none, needs)
 
+cast-at : tie.Need-cast-at Inv-loop μ-loop
+cast-at c = search needs
+
+mul-column : tie.Need-mul-column Inv-loop μ-loop
+mul-column c = search needs
+
+element-copy-out-column : tie.Need-element-copy-out-column Inv-loop μ-loop
+element-copy-out-column c = search needs
+
 column-fault-requires : tie.Need-column-fault-requires Inv-loop μ-loop
-column-fault-requires c κs = search needs
+column-fault-requires c κs = (search needs, search needs, search needs, search needs, search needs, column-is _ _)
 
 add-c : tie.Need-add-c Inv-loop μ-loop
 add-c c = search needs
@@ -38,7 +48,7 @@ loop-less : tie.Need-loop-less Inv-loop μ-loop
 loop-less c = search needs
 
 loop-again : tie.Need-loop-again Inv-loop μ-loop
-loop-again c = (search needs, faulty-more _ _ _ _ _ _ (c .before .before .before .before .before .loop .inv .1) (c .before .before .column-fault .ensures) (c .if4 .taken))
+loop-again c = (search needs, faulty-more _ _ _ _ _ _ (c .before .before .before .before .before .loop .inv .1) (c .before .before .column-fault .ensures) (c .if3 .taken))
 
 returns-2 : tie.Need-returns-2 Inv-loop μ-loop
 returns-2 c = search (faulty-at, needs)
@@ -66,6 +76,9 @@ batch-fault-spec =
     fault-requires
     returns
     loop-holds
+    cast-at
+    mul-column
+    element-copy-out-column
     column-fault-requires
     add-c
     loop-less

@@ -5,11 +5,8 @@ use Rattle.checks.specs.RuleLaws.{list-room, record-heeded}
 use Rattle.checks.proofs.column_fault.Statement.{statement}
 use Rattle.checks.proofs.column_fault.Tie as tie
 
-column-of-requires : tie.Need-column-of-requires
-column-of-requires c κs = search needs
-
-width-of-requires : tie.Need-width-of-requires
-width-of-requires c κs = search needs
+width-in-requires : tie.Need-width-in-requires
+width-in-requires c κs = search needs
 
 cast-width : tie.Need-cast-width
 cast-width c = search needs
@@ -35,9 +32,8 @@ row-fault-requires c κs =
     let lies = held .before .before in
     let rules = lies .before .before in
     let width = rules .before .before in
-    let column = width .before in
-    let start = column .before .before .before .before .before in
-    (record-heeded _ _ _ _ _ _ _ (start .pre .0) (rules .keeps-rules .ensures) (lies .before .if1 .taken) (lies .lies-in-body .ensures) (held .before .if2 .taken) (held .all-held .ensures) (c .before .before .if3 .taken), start .pre .3, rows-in _ _ _ _ _ (column .column-of .ensures) (width .width-of .ensures .0) (lies .lies-in-body .ensures) (held .before .if2 .taken) (c .before .is-view .ensures) (c .if4 .taken))
+    let start = width .before .before .before .before .before in
+    (record-heeded _ _ _ _ _ _ _ (start .pre .0) (rules .keeps-rules .ensures) (lies .before .if1 .taken) (lies .lies-in-body .ensures) (held .before .if2 .taken) (held .all-held .ensures) (c .before .before .if3 .taken), start .pre .3, rows-in _ _ _ _ _ (start .pre .5) (width .width-in .ensures .0) (lies .lies-in-body .ensures) (held .before .if2 .taken) (c .before .is-view .ensures) (c .if4 .taken))
 
 fault-requires : tie.Need-fault-requires
 fault-requires c κs = search needs
@@ -70,8 +66,7 @@ pub column-fault-spec : {M : Type 1} → statement M
 column-fault-spec =
     tie.close
     (tie.spec
-    column-of-requires
-    width-of-requires
+    width-in-requires
     cast-width
     record-at-requires
     keeps-rules-requires

@@ -1,11 +1,14 @@
 -- `completed::drop_list` meets its contract.
 use borrow.Author.Needs.{needs}
-use Rattle.completed.specs.DropLaws.{off-slot, off-column, off-part, off-listed, off-is}
+use Rattle.completed.specs.DropLaws.{off-none, off-slot, off-column, off-part, off-listed, off-is}
 use Rattle.completed.proofs.drop_list.Statement.{statement}
 use Rattle.completed.proofs.drop_list.Tie as tie
 
 list-length-requires : tie.Need-list-length-requires
 list-length-requires c κs = search (off-slot, needs)
+
+returns : tie.Need-returns
+returns c = search (off-none, needs)
 
 list-place-requires : tie.Need-list-place-requires
 list-place-requires c κs = search (off-slot, off-column, needs)
@@ -37,14 +40,15 @@ unlist-all-requires c κs = search (off-listed, needs)
 same-length : tie.Need-same-length
 same-length c = search needs
 
-returns : tie.Need-returns
-returns c = search (off-is, needs)
+returns-2 : tie.Need-returns-2
+returns-2 c = search (off-is, needs)
 
 pub drop-list-spec : {M : Type 1} → statement M
 drop-list-spec =
     tie.close
     (tie.spec
     list-length-requires
+    returns
     list-place-requires
     cast-end
     mul-end
@@ -55,4 +59,4 @@ drop-list-spec =
     cast-unlist-all
     unlist-all-requires
     same-length
-    returns)
+    returns-2)

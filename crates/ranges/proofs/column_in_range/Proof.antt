@@ -4,11 +4,8 @@ use Rattle.ranges.specs.RangeLaws.{used-room, column-other, column-size,
 use Rattle.ranges.proofs.column_in_range.Statement.{statement}
 use Rattle.ranges.proofs.column_in_range.Tie as tie
 
-is-views-requires : tie.Need-is-views-requires
-is-views-requires c κs = search needs
-
-column-of-requires : tie.Need-column-of-requires
-column-of-requires c κs = search needs
+is-view-requires : tie.Need-is-view-requires
+is-view-requires c κs = search needs
 
 between-requires : tie.Need-between-requires
 between-requires c κs = search needs
@@ -35,8 +32,7 @@ pub column-in-range-spec : {M : Type 1} → statement M
 column-in-range-spec =
     tie.close
     (tie.spec
-    is-views-requires
-    column-of-requires
+    is-view-requires
     between-requires
     get32-requires
     list-length-requires

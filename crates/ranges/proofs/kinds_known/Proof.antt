@@ -15,8 +15,14 @@ abbrev μ-loop : tie.MeasureT-loop
 loop-holds : tie.Need-loop-holds Inv-loop μ-loop
 loop-holds c = search (known-none, needs)
 
-column-of-requires : tie.Need-column-of-requires Inv-loop μ-loop
-column-of-requires c κs = search needs
+cast-at : tie.Need-cast-at Inv-loop μ-loop
+cast-at c = search needs
+
+mul-column : tie.Need-mul-column Inv-loop μ-loop
+mul-column c = search needs
+
+element-copy-out-column : tie.Need-element-copy-out-column Inv-loop μ-loop
+element-copy-out-column c = search needs
 
 width-of-requires : tie.Need-width-of-requires Inv-loop μ-loop
 width-of-requires c κs = search needs
@@ -49,7 +55,9 @@ kinds-known-spec =
     Inv-loop
     μ-loop
     loop-holds
-    column-of-requires
+    cast-at
+    mul-column
+    element-copy-out-column
     width-of-requires
     enum-told
     enum-told-2

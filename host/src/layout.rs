@@ -1,0 +1,148 @@
+//! Where things lie in lent memory, as docs/LAYOUT.md says: the lengths that set-up wants, and what tests read past the calls.
+
+use crate::{Kind, Memory, SetUp};
+
+/// The word at a place.
+pub fn word(bytes: &[u8], at: usize) -> u32 {
+    u32::from_le_bytes(bytes[at..at + 4].try_into().unwrap())
+}
+
+/// The lengths of lent memory.
+#[derive(Clone, Copy, PartialEq, Eq, Debug)]
+pub struct SetUpSizes {
+    pub slots: usize,
+    pub books: usize,
+    pub pool: usize,
+}
+
+impl SetUpSizes {
+    /// Of a set-up; `None` where they do not fit the machine.
+    pub fn of(set_up: &SetUp) -> Option<SetUpSizes> {
+        let slot = slot_size(&set_up.kinds, set_up.rows as usize, set_up.lists as usize);
+        let queue = set_up.queue as usize + 1;
+        let counts = 4 * (1 + set_up.kinds.len()) * queue;
+        Some(SetUpSizes {
+            slots: slot.checked_mul(queue)?,
+            books: (set_up.numbers as usize).checked_mul(20)?.checked_add(4 + counts)?,
+            pool: set_up.pool as usize,
+        })
+    }
+}
+
+/// Bytes of one column in a slot.
+fn column_size(kind: Kind, rows: usize, lists: usize) -> usize {
+    rows * kind.width() + rows.div_ceil(8) + if kind.is_view() { 4 * lists } else { 0 }
+}
+
+/// Bytes of one slot.
+fn slot_size(kinds: &[Kind], rows: usize, lists: usize) -> usize {
+    kinds.iter().map(|kind| column_size(*kind, rows, lists)).sum()
+}
+
+/// An entry of the books.
+#[derive(Clone, Copy, PartialEq, Eq, Debug)]
+pub struct Entry {
+    pub start: usize,
+    pub capacity: usize,
+    pub length: usize,
+    pub hold: u32,
+    pub listings: u32,
+}
+
+/// Memory in which a set-up stands, read by its layout.
+pub struct Reader<'a> {
+    pub memory: &'a Memory,
+    kinds: Vec<Kind>,
+    rows: usize,
+    lists: usize,
+    numbers: usize,
+}
+
+impl<'a> Reader<'a> {
+    pub fn new(memory: &'a Memory) -> Reader<'a> {
+        let at = |i: usize| word(&memory.state, 4 * i) as usize;
+        let kinds = (0..at(3)).map(|c| Kind::of(at(12 + 4 * c) as u32).expect("a kind")).collect();
+        Reader { memory, kinds, rows: at(1), lists: at(4), numbers: at(5) }
+    }
+
+    /// A word of the state.
+    fn state(&self, i: usize) -> usize {
+        word(&self.memory.state, 4 * i) as usize
+    }
+
+    pub fn queued(&self) -> usize {
+        self.state(10)
+    }
+
+    pub fn buffered(&self) -> usize {
+        self.state(11)
+    }
+
+    /// The slot being filled.
+    pub fn place(&self) -> usize {
+        self.state(9)
+    }
+
+    /// The slot of the batch that is k-th in the queue, 0 the front.
+    pub fn queued_slot(&self, k: usize) -> usize {
+        let slots = self.state(2) + 1;
+        (self.place() + slots - self.queued() + k) % slots
+    }
+
+    /// The kept block size of a column.
+    pub fn kept(&self, c: usize) -> usize {
+        self.state(13 + 4 * c)
+    }
+
+    /// The number of a column's open block.
+    pub fn open_block(&self, c: usize) -> Option<u32> {
+        (self.state(14 + 4 * c) == 1).then(|| self.state(15 + 4 * c) as u32)
+    }
+
+    pub fn entry(&self, number: u32) -> Entry {
+        let at = |i: usize| word(&self.memory.books, 4 + 20 * number as usize + 4 * i);
+        Entry { start: at(0) as usize, capacity: at(1) as usize, length: at(2) as usize, hold: at(3), listings: at(4) }
+    }
+
+    /// The bytes that a buffer fills.
+    pub fn buffer(&self, number: u32) -> &'a [u8] {
+        let entry = self.entry(number);
+        &self.memory.pool[entry.start..entry.start + entry.length]
+    }
+
+    /// A count of a slot: 0 its rows, c + 1 the list length of column c.
+    fn count(&self, slot: usize, k: usize) -> usize {
+        word(&self.memory.books, 4 + 20 * self.numbers + 4 * ((1 + self.kinds.len()) * slot + k)) as usize
+    }
+
+    pub fn rows_in(&self, slot: usize) -> usize {
+        self.count(slot, 0)
+    }
+
+    /// Where column c of a slot begins.
+    fn column_place(&self, slot: usize, c: usize) -> usize {
+        slot * slot_size(&self.kinds, self.rows, self.lists) + slot_size(&self.kinds[..c], self.rows, self.lists)
+    }
+
+    /// The first n rows' values.
+    pub fn values(&self, slot: usize, c: usize, n: usize) -> &'a [u8] {
+        let at = self.column_place(slot, c);
+        &self.memory.slots[at..at + n * self.kinds[c].width()]
+    }
+
+    /// The bitmap bytes of the first n rows.
+    pub fn bitmap(&self, slot: usize, c: usize, n: usize) -> &'a [u8] {
+        let at = self.column_place(slot, c) + self.rows * self.kinds[c].width();
+        &self.memory.slots[at..at + n.div_ceil(8)]
+    }
+
+    /// The list of a column.
+    pub fn list(&self, slot: usize, c: usize) -> Vec<u32> {
+        let at = self.column_place(slot, c) + self.rows * self.kinds[c].width() + self.rows.div_ceil(8);
+        (0..self.count(slot, c + 1)).map(|i| word(&self.memory.slots, at + 4 * i)).collect()
+    }
+
+    pub fn kinds(&self) -> &[Kind] {
+        &self.kinds
+    }
+}

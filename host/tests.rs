@@ -1,0 +1,94 @@
+//! Tests of the wrapper: names, refusals by their numbers, limits, nulls, buffers let go, batches in order.
+
+use puffwidget::*;
+
+fn column<'a>(kind: Kind, values: &'a [u8], buffers: &'a [BufferNumber]) -> Column<'a> {
+    Column { kind, values, validity: None, buffers }
+}
+
+fn bytes(values: &[u8]) -> Batch {
+    Batch::new(values.len() as u32, &[column(Kind::UInt8, values, &[])])
+}
+
+fn first_column(batch: &CompletedBatch) -> Vec<u8> {
+    batch.columns[0].iter().map(|row| row.as_deref().unwrap()[0]).collect()
+}
+
+#[test]
+fn a_large_batch_goes_behind_the_buffered_rows() {
+    let set_up = SetUp::new(&[Kind::UInt8], 8);
+    let mut coalescer = BatchCoalescer::new(&set_up).unwrap().with_biggest_coalesce_batch_size(Some(2));
+    assert_eq!(coalescer.biggest_coalesce_batch_size(), Some(2));
+    for rows in [&[1, 2][..], &[3, 4, 5], &[6, 7, 8]] {
+        coalescer.push_batch(&bytes(rows)).unwrap();
+    }
+    let first = coalescer.next_completed_batch().unwrap().unwrap();
+    let second = coalescer.next_completed_batch().unwrap().unwrap();
+    assert_eq!((first_column(&first), first_column(&second)), (vec![1, 2, 3, 4, 5], vec![6, 7, 8]));
+    assert!(coalescer.is_empty());
+}
+
+#[test]
+fn each_refusal_has_its_number_and_a_sentence() {
+    for number in 1..=14 {
+        let refusal = Refusal::of(number).unwrap();
+        assert_eq!(refusal.number(), number);
+        assert!(refusal.to_string().starts_with(&format!("refused ({number}): ")));
+    }
+    assert_eq!((Refusal::of(0), Refusal::of(15)), (None, None));
+}
+
+#[test]
+fn a_refused_push_changes_nothing() {
+    let mut coalescer = BatchCoalescer::new(&SetUp::new(&[Kind::UInt8], 4)).unwrap();
+    coalescer.push_batch(&bytes(&[1])).unwrap();
+    let before = coalescer.memory().clone();
+    let mut short = bytes(&[2, 3]);
+    short.body.pop();
+    assert_eq!(coalescer.push_batch(&short), Err(Refusal::OutsideBody));
+    let mut other = bytes(&[2, 3]);
+    other.records[0] = 1;
+    assert_eq!(coalescer.push_batch(&other), Err(Refusal::Record));
+    let held = [BufferNumber(5)];
+    let views = inline_view(b"Lata");
+    let column = column(Kind::UInt8, &views[..1], &held);
+    assert_eq!(coalescer.push_batch(&Batch::new(1, &[column])), Err(Refusal::Record));
+    assert!(*coalescer.memory() == before);
+}
+
+#[test]
+fn set_up_outside_its_bounds_is_refused() {
+    for (target, queue) in [(0, 8), (65_537, 8), (4, 0), (4, 1_025)] {
+        let set_up = SetUp { target, queue, rows: 65_536, ..SetUp::new(&[Kind::UInt8], 4) };
+        assert_eq!(BatchCoalescer::new(&set_up).err(), Some(Refusal::SetUp));
+    }
+}
+
+#[test]
+fn nulls_and_long_names_come_back() {
+    let names = b"Gurpreet Kaur BhullarHarini Subramanian";
+    let mut coalescer = BatchCoalescer::new(&SetUp::new(&[Kind::Utf8View], 3)).unwrap();
+    let number = coalescer.register_buffer(names, 4_000).unwrap();
+    let views = [long_view(names, 0, 0, 21), inline_view(b"none"), long_view(names, 0, 21, 18)].concat();
+    let validity = Some(Validity { bitmap: &[0b1010_0000], first_bit: 5 });
+    let column = Column { kind: Kind::Utf8View, values: &views, validity, buffers: &[number] };
+    coalescer.push_batch(&Batch::new(3, &[column])).unwrap();
+    coalescer.let_go(number).unwrap();
+    coalescer.register_buffer(b"somebody else's name, in the room that was freed", 48).unwrap();
+    let batch = coalescer.next_completed_batch().unwrap().unwrap();
+    assert_eq!(batch.columns[0][0].as_deref(), Some(&names[..21]));
+    assert_eq!(batch.columns[0][1], None);
+    assert_eq!(batch.columns[0][2].as_deref(), Some(&names[21..]));
+}
+
+#[test]
+fn a_full_queue_refuses_and_a_taken_batch_makes_room() {
+    let set_up = SetUp { queue: 1, ..SetUp::new(&[Kind::UInt8], 1) };
+    let mut coalescer = BatchCoalescer::new(&set_up).unwrap();
+    coalescer.push_batch(&bytes(&[1])).unwrap();
+    assert_eq!(coalescer.push_batch(&bytes(&[2])), Err(Refusal::QueueFull));
+    assert_eq!(coalescer.next_completed_batch().unwrap().unwrap().rows, 1);
+    coalescer.push_batch(&bytes(&[2])).unwrap();
+    assert_eq!(coalescer.next_completed_batch().unwrap().unwrap().columns[0][0].as_deref(), Some(&[2][..]));
+    assert_eq!(coalescer.next_completed_batch(), Ok(None));
+}
