@@ -1,5 +1,5 @@
 -- Padding: the bytes of a view behind its own, a word at a time, as the code looks at them.
-use Prim.Native.Nat.{ℕ, zero, suc, _+_, _-_, _*_, _/_, _%_, _≤_, _<_}
+use Prim.Native.Nat.{ℕ, zero, suc, _+_, _-_, _*_, _/_, _%_, _≤_, _<_, _^_}
 use mathlib.Core.Path.{_≡_, refl, sym, _∙_, ap}
 use mathlib.Core.Bool.{Bool, true, false, _&&_, cond, and-eq-true-iff}
 use mathlib.Core.List.{List, [], _∷_, _++_}
@@ -93,34 +93,36 @@ low0 : (w : ℕ) → w ≡ 0 → Clear w 0
 low0 w e zero a b = rw e
 low0 w e (suc j) a b = low1 w (omega arith) (suc j) (omega arith) b
 
--- clear_from: the place of k in a table of five, and the table
-abbrev pub placeOf : ℕ → ℕ
-placeOf k = cond (ltb k 4) k 4
+-- clear_from: k, at most 4
+abbrev pub atMostFour : ℕ → ℕ
+atMostFour k = cond (ltb k 4) k 4
 
-pub place-low : (k : ℕ) → k < 4 → k ≡ placeOf k
-place-low k h = rw (lt-ltb k 4 h)
+pub four-low : (k : ℕ) → k < 4 → k ≡ atMostFour k
+four-low k h = rw (lt-ltb k 4 h)
 
-pub place-high : (k : ℕ) → 4 ≤ k → 4 ≡ placeOf k
-place-high k h = rw (le-ltb k 4 h)
+pub four-high : (k : ℕ) → 4 ≤ k → 4 ≡ atMostFour k
+four-high k h = rw (le-ltb k 4 h)
 
--- a word is below the table's entry exactly where its bytes from k on are zero
-abbrev Below : ℕ → ℕ → Type 0
-Below w k = ltb w (getD (1 ∷ 256 ∷ 65536 ∷ 16777216 ∷ 4294967296 ∷ []) (placeOf k) 0) ≡ clearFrom w k
+-- a word has nothing above its k lowest bytes exactly where its bytes from k on are zero
+abbrev Above : ℕ → ℕ → Type 0
+Above w k = eqb (w / 2 ^ (8 * atMostFour k)) 0 ≡ clearFrom w k
 
-clear-more : (w k : ℕ) → w < 4294967296 → 4 ≤ k → Below w k
-clear-more w k f h = rw (le-ltb k 4 h, lt-ltb w 4294967296 f) (sym (clear-is w k (λ j p q. absurd (omega arith))))
+above-more : (w k : ℕ) → w < 4294967296 → 4 ≤ k → Above w k
+above-more w k f h = rw (le-ltb k 4 h, eq-eqb (w / 4294967296) 0 (omega arith)) (sym (clear-is w k (λ j p q. absurd (omega arith))))
 
-clear-below : (w k : ℕ) → w < 4294967296 → Below w k
-clear-below w zero f = same-test _ _ (λ t. clear-is w 0 (low0 w (omega (arith, ltb-true w 1 t)))) (λ t. lt-ltb w 1 (omega (arith, top0 w (clear-says w 0 t))))
-clear-below w (suc zero) f = same-test _ _ (λ t. clear-is w 1 (low1 w (ltb-true w 256 t))) (λ t. lt-ltb w 256 (top1 w (clear-says w 1 t)))
-clear-below w (suc (suc zero)) f =
-    same-test _ _ (λ t. clear-is w 2 (low2 w (ltb-true w 65536 t))) (λ t. lt-ltb w 65536 (top2 w (clear-says w 2 t)))
-clear-below w (suc (suc (suc zero))) f =
-    same-test _ _ (λ t. clear-is w 3 (low3 w (ltb-true w 16777216 t))) (λ t. lt-ltb w 16777216 (top3 w (clear-says w 3 t)))
-clear-below w (suc (suc (suc (suc k)))) f = clear-more w (suc (suc (suc (suc k)))) f (omega arith)
+above-is : (w k : ℕ) → w < 4294967296 → Above w k
+above-is w zero f =
+    same-test _ _ (λ t. clear-is w 0 (low0 w (omega (arith, eqb-true (w / 1) 0 t)))) (λ t. eq-eqb (w / 1) 0 (omega (arith, top0 w (clear-says w 0 t))))
+above-is w (suc zero) f =
+    same-test _ _ (λ t. clear-is w 1 (low1 w (omega (arith, eqb-true (w / 256) 0 t)))) (λ t. eq-eqb (w / 256) 0 (omega (arith, top1 w (clear-says w 1 t))))
+above-is w (suc (suc zero)) f =
+    same-test _ _ (λ t. clear-is w 2 (low2 w (omega (arith, eqb-true (w / 65536) 0 t)))) (λ t. eq-eqb (w / 65536) 0 (omega (arith, top2 w (clear-says w 2 t))))
+above-is w (suc (suc (suc zero))) f =
+    same-test _ _ (λ t. clear-is w 3 (low3 w (omega (arith, eqb-true (w / 16777216) 0 t)))) (λ t. eq-eqb (w / 16777216) 0 (omega (arith, top3 w (clear-says w 3 t))))
+above-is w (suc (suc (suc (suc k)))) f = above-more w (suc (suc (suc (suc k)))) f (omega arith)
 
-pub clear-table : (w k : ℕ) {p : ℕ} → w < 4294967296 → p ≡ placeOf k → ltb w (getD (1 ∷ 256 ∷ 65536 ∷ 16777216 ∷ 4294967296 ∷ []) p 0) ≡ clearFrom w k
-clear-table w k f e = rw e (clear-below w k f)
+pub clear-above : (w k : ℕ) {p : ℕ} → w < 4294967296 → p ≡ atMostFour k → eqb (w / 2 ^ (8 * p)) 0 ≡ clearFrom w k
+clear-above w k f e = rw e (above-is w k f)
 
 -- the 12 bytes by words
 pub inline-prefix : (v : View) (j : ℕ) → j < 4 → getD (inlineBytes v) j 0 ≡ getD (bytesOf (v .prefix)) j 0

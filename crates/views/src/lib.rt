@@ -6,7 +6,7 @@ ghost use Prim.Native.Nat.{_+_, _-_, _≤_, _<_};
 ghost use lib.ListN.{length};
 ghost use Rattle.views.specs.View.{viewOf, withView, bytesOf, zeroFrom, isPadded, filled, inBuffer, longLength, raisedBy, repointed};
 ghost use Rattle.views.specs.Raise.{Raises};
-ghost use Rattle.views.specs.PadLaws.{placeOf};
+ghost use Rattle.views.specs.PadLaws.{atMostFour};
 use counts::ByteCount;
 use counts::ByteSum;
 
@@ -52,22 +52,19 @@ pub fn put_view(s: &mut [u8], at: usize, v: View)
     words::put32(s, at + 12, v.offset);
 }
 
-// What words are below that have bytes 0 to k at most: 256 to the power k. A table and no branches: rows of mixed lengths cost no more.
-const BELOW: [u64; 5] = [1, 256, 65536, 16777216, 4294967296];
-
-// The place of k in the table; the last one stands for all that are more.
-fn place_of(k: u32) -> usize
-    ensures { λ r. ⌜ (r ≡ placeOf k) × (r < 5) ⌝ }
+// k, and 4 where it is more: a word has four bytes.
+fn at_most_four(k: u32) -> u32
+    ensures { λ r. ⌜ (r ≡ atMostFour k) × (r < 5) ⌝ }
 {
-    if k < 4 { k as usize } else { 4 }
+    if k < 4 { k } else { 4 }
 }
 
-// Whether the bytes of the word from byte k on are zero.
+// Whether the bytes of the word from byte k on are zero. A shift and no branches: rows of mixed lengths cost no more.
 fn clear_from(word: u32, k: u32) -> bool
     ensures { λ r. ⌜ r ≡ zeroFrom (bytesOf word) k 4 ⌝ }
 {
-    let place = place_of(k);
-    (word as u64) < BELOW[place]
+    let bits = 8 * at_most_four(k);
+    (word as u64) >> bits == 0
 }
 
 // What is left of n behind k.

@@ -7,6 +7,9 @@ use Rattle.completed.proofs.drop_list.Tie as tie
 list-length-requires : tie.Need-list-length-requires
 list-length-requires c κs = search (off-slot, needs)
 
+same-length : tie.Need-same-length
+same-length c = search needs
+
 returns : tie.Need-returns
 returns c = search (off-none, needs)
 
@@ -37,8 +40,8 @@ cast-unlist-all c = search needs
 unlist-all-requires : tie.Need-unlist-all-requires
 unlist-all-requires c κs = search (off-listed, needs)
 
-same-length : tie.Need-same-length
-same-length c = search needs
+same-length-2 : tie.Need-same-length-2
+same-length-2 c = search needs
 
 returns-2 : tie.Need-returns-2
 returns-2 c = search (off-is, needs)
@@ -48,6 +51,7 @@ drop-list-spec =
     tie.close
     (tie.spec
     list-length-requires
+    same-length
     returns
     list-place-requires
     cast-end
@@ -58,5 +62,5 @@ drop-list-spec =
     part-unlist-all-end
     cast-unlist-all
     unlist-all-requires
-    same-length
+    same-length-2
     returns-2)
