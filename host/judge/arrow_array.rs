@@ -139,10 +139,7 @@ fn covers(nulls: Option<&NullBuffer>, rows: usize) -> bool {
 }
 
 impl<T: ArrowPrimitiveType> PrimitiveArray<T> {
-    pub fn try_new(
-        values: ScalarBuffer<T::Native>,
-        nulls: Option<NullBuffer>,
-    ) -> Result<Self, ArrowError> {
+    pub fn try_new(values: ScalarBuffer<T::Native>, nulls: Option<NullBuffer>) -> Result<Self, ArrowError> {
         if !covers(nulls.as_ref(), values.len()) {
             let what = "validity and values differ in rows".to_string();
             return Err(ArrowError::InvalidArgumentError(what));
@@ -189,11 +186,7 @@ pub struct GenericByteViewArray<B: types::ByteViewType> {
 impl<B: types::ByteViewType> GenericByteViewArray<B> {
     /// # Safety
     /// Each long view lies in the buffer that it names, and validity covers the rows.
-    pub unsafe fn new_unchecked(
-        views: ScalarBuffer<u128>,
-        buffers: Arc<[Buffer]>,
-        nulls: Option<NullBuffer>,
-    ) -> Self {
+    pub unsafe fn new_unchecked(views: ScalarBuffer<u128>, buffers: Arc<[Buffer]>, nulls: Option<NullBuffer>) -> Self {
         debug_assert!(covers(nulls.as_ref(), views.len()));
         let data_type = B::DATA_TYPE;
         Self { data_type, views, buffers, nulls, _kind: PhantomData }

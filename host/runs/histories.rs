@@ -9,7 +9,9 @@ use puffwidget::{Kind, SetUp};
 /// A set-up within bounds: small targets, so that there are many parts.
 fn set_up(rng: &mut Rng, large: bool) -> SetUp {
     let columns = rng.pick(&[0, 1, 1, 2, 2, 3, 4, 5, 8, 16]);
-    let kind = |rng: &mut Rng| if rng.one_in(2) { rng.pick(&[Kind::Utf8View, Kind::BinaryView]) } else { Kind::of(rng.within(1, 17) as u32).unwrap() };
+    let kind = |rng: &mut Rng| {
+        if rng.one_in(2) { rng.pick(&[Kind::Utf8View, Kind::BinaryView]) } else { Kind::of(rng.within(1, 17) as u32).unwrap() }
+    };
     let target = rng.pick(&[1, 1, 2, 3, 4, 5, 8, 16, 64]);
     SetUp {
         kinds: (0..columns).map(|_| kind(rng)).collect(),

@@ -20,7 +20,12 @@ fn main() {
         let run = history(seed, &mut tally);
         seed += 1;
         let small = run.memory.slots.len() <= 65_536 && run.memory.pool.len() <= 300_000 && run.memory.books.len() <= 65_536;
-        if tally.refused.iter().sum::<u64>() > 0 || !small || run.trace.said.len() > 4_000 || run.trace.calls.len() > 12_000 || tally.pushes < 3 {
+        if tally.refused.iter().sum::<u64>() > 0
+            || !small
+            || run.trace.said.len() > 4_000
+            || run.trace.calls.len() > 12_000
+            || tally.pushes < 3
+        {
             continue;
         }
         calls.extend_from_slice(&run.trace.calls);
@@ -32,5 +37,12 @@ fn main() {
     }
     std::fs::write(capture, &calls).expect("the capture can be written");
     std::fs::write(answers, &said).expect("the answers can be written");
-    println!("{found} histories, {} pushes of {} rows, {} batches: {} bytes of calls, {} of answers", all.pushes, all.rows, all.batches, calls.len(), said.len());
+    println!(
+        "{found} histories, {} pushes of {} rows, {} batches: {} bytes of calls, {} of answers",
+        all.pushes,
+        all.rows,
+        all.batches,
+        calls.len(),
+        said.len()
+    );
 }

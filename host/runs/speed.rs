@@ -4,10 +4,10 @@
 //! and books are warm, and so is what the Rust's allocator gives again. `memcpy` copies the bytes that a push moves, to warm memory.
 //! `speed [ROUNDS]`; times are of this machine, ratios travel better.
 
-use runs::columns::{Made, batch_of};
 use judge::{Judge, JudgeBuffer, JudgeColumn, Prepared, prepare};
 use puffwidget::layout::SetUpSizes;
 use puffwidget::{Batch, Kind, Memory, SetUp, inline_view, long_view};
+use runs::columns::{Made, batch_of};
 use runs::rng::Rng;
 use std::hint::black_box;
 use std::time::Instant;
@@ -98,7 +98,11 @@ fn bench(case: &Case) -> Bench {
     let long = is_view && case.string > 12;
     let list = if long { vec![memory.register_buffer(&bytes, (bytes.len() * case.spread) as u32).unwrap()] } else { vec![] };
     let validity = case.nulls.then(|| (vec![0x7f; case.rows.div_ceil(8)], 0));
-    let made: Vec<Made> = case.kinds.iter().map(|kind| Made { kind: *kind, values: values.clone(), validity: validity.clone(), list: list.clone() }).collect();
+    let made: Vec<Made> = case
+        .kinds
+        .iter()
+        .map(|kind| Made { kind: *kind, values: values.clone(), validity: validity.clone(), list: list.clone() })
+        .collect();
     let buffer = JudgeBuffer::new(&bytes, bytes.len() * case.spread);
     let columns: Vec<JudgeColumn> = made
         .iter()
@@ -167,6 +171,12 @@ fn main() {
             }
         }
         let [port, rust, memcpy] = best;
-        println!("| {} | {port:.0} ns | {rust:.0} ns | {:.2} | {:.1} | {:.0} % |", case.name, rust / port, bench.moved as f64 / port, 100.0 * memcpy / port);
+        println!(
+            "| {} | {port:.0} ns | {rust:.0} ns | {:.2} | {:.1} | {:.0} % |",
+            case.name,
+            rust / port,
+            bench.moved as f64 / port,
+            100.0 * memcpy / port
+        );
     }
 }

@@ -103,9 +103,7 @@ impl BatchCoalescer {
         let sizes = SetUpSizes::of(set_up).ok_or(Refusal::SetUp)?;
         let mut memory = Memory::of(sizes.slots, sizes.pool, sizes.books);
         let kinds: Vec<u8> = set_up.kinds.iter().flat_map(|kind| kind.number().to_le_bytes()).collect();
-        memory
-            .set_up(&kinds, set_up.target, set_up.rows, set_up.queue, set_up.lists, set_up.numbers)
-            .map_err(Refusal::from_call)?;
+        memory.set_up(&kinds, set_up.target, set_up.rows, set_up.queue, set_up.lists, set_up.numbers).map_err(Refusal::from_call)?;
         Ok(BatchCoalescer { memory, columns: set_up.kinds.len() })
     }
 
