@@ -23,6 +23,7 @@ use Rattle.state.specs.World.{World, world}
 use Rattle.state.specs.Layout.{widthOf, isViews, valuesBytes, bitmapPlace, bitmapBytes, cellPlace}
 use Rattle.state.specs.LayoutLaws.{bits-fit}
 use Rattle.columns.specs.declared.Step.{Step}
+use Rattle.rules.specs.Steps.{ok}
 use Rattle.columns.specs.Step.{Steps, steps-done}
 use Rattle.going.specs.CallerLaws.{cells-room, bitmap-room, values-room}
 use Rattle.going.specs.StepGoes.{bits-goes}
@@ -99,6 +100,10 @@ module _ {s : BatchCoalescer} {slots pool books records body : List ℕ} {rows :
     pub rows-copied : {y : Way} {slots″ : List ℕ} → y ≡ Way.Copied → slots″ ≡ lay (p .place + p .at * width) (read (r .values + p .from * width) (p .count * width) body) slots′ → Steps (copiedBy w b p y) (record { state = s; number = 0 }) slots″ pool books
     rows-copied {y} {slots″} f z =
         steps-done (copied-by y ∙ rw (f, values-copied s slots′ pool books rows records body (p .column) (s .place) (p .at) (p .from) (p .count) (x .recorded) (sym cell-at) we z))
+
+    -- the same, where no state is handed back
+    pub rows-plain : {slots″ : List ℕ} → slots″ ≡ lay (p .place + p .at * width) (read (r .values + p .from * width) (p .count * width) body) slots′ → copiedBy w b p Way.Copied ≡ ok (world s slots″ pool books)
+    rows-plain z = rows-copied refl z .done refl
 
     module _ {source : Source} (d : Decided w b (p .column) source) where
       views-so : (source .way ≡ Way.Copied → ⊥) → isViews s (p .column) ≡ true

@@ -11,7 +11,8 @@ ghost use Rattle.tallies.specs.Tally.{withTally};
 ghost use Rattle.sound.specs.Change.{withLength};
 ghost use Rattle.state.specs.declared.OpenBlock.{OpenBlock};
 ghost use Rattle.state.specs.World.{world, columnOf};
-ghost use Rattle.state.specs.Layout.{isViews, listPlace, listLength, slotsLength, booksLength, tally};
+ghost use Rattle.rules.specs.declared.Way.{Way};
+ghost use Rattle.state.specs.Layout.{isViews, widthOf, listPlace, listLength, slotsLength, booksLength, tally};
 ghost use Rattle.layout.specs.Few.{Few};
 ghost use Rattle.rules.specs.Batch.{batch, recordOf};
 ghost use Rattle.rules.specs.Steps.{ok};
@@ -407,6 +408,31 @@ fn attach(
             number: 10,
         }
     }
+}
+
+// A part of a column that is copied as it stands. It changes no state, so none is handed back: the state is 300 bytes, and copying it for each
+// column of numbers cost as much as the numbers.
+pub fn copy_plain(
+    s: BatchCoalescer,
+    slots: &mut [u8],
+    pool: &[u8],
+    books: &[u8],
+    records: &[u8],
+    body: &[u8],
+    rows: u32,
+    r: ColumnRecord,
+    width: usize,
+    p: Rows,
+)
+    requires { ⌜ (Part (world s (now slots) (now pool) (now books)) (batch rows (now records) (now body)) r p)
+        × (width ≡ widthOf s (p .column)) × (width ≤ 32) ⌝ }
+    ensures { λ _. ⌜ copiedBy (world s (now (slots .entry)) (now (pool .entry)) (now (books .entry))) (batch rows (now (records .entry)) (now (body .entry))) p Way.Copied
+        ≡ ok (world s (now (slots .exit)) (now (pool .entry)) (now (books .entry))) ⌝ }
+{
+    let begin = p.place + (s.rows.0 as usize) * width;
+    let size = layout::bitmap_bytes(s);
+    primitive::copy_validity(slots, begin, size, body, r, p);
+    primitive::copy_values(slots, body, r, width, p);
 }
 
 // copy_rows: a part of a batch into column c of the slot being filled, the way that was decided.

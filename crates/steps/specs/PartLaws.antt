@@ -6,12 +6,14 @@ use native.Mathlib.Omega.{arith}
 use native.Mathlib.Decide.{decLt}
 use lib.ListN.{length, getD}
 use Rattle.state.specs.declared.BatchCoalescer.{BatchCoalescer}
-use Rattle.state.specs.World.{World, world}
-use Rattle.state.specs.Layout.{valuesPlace}
+use Rattle.state.specs.World.{World, world, columnOf, noColumn}
+use Rattle.kinds.specs.Kind.{widthAt}
+use Rattle.state.specs.Layout.{bytesIn, widthOf, valuesPlace}
 use Rattle.layout.specs.Few.{Few}
 use Rattle.primitive.specs.declared.Rows.{Rows}
 use Rattle.primitive.specs.LaidLaws.{record-any}
 use Rattle.rules.specs.declared.ColumnRecord.{ColumnRecord}
+use Rattle.rules.specs.declared.Way.{Way}
 use Rattle.rules.specs.Batch.{Batch, batch, recordOf, way}
 use Rattle.rules.specs.Steps.{Res, ok, refuse, bind, forEach, withCounts, buffering}
 use Rattle.rules.specs.Views.{columnCopied, partCopied}
@@ -64,6 +66,11 @@ module _ {s : BatchCoalescer} {slots pool books : List ℕ} {rows : ℕ} {record
   pub column-part : {r : ColumnRecord} → r ≡ recordOf (batch 0 records []) (p .column) → Part (world s slots pool books) (batch rows records body) r p
   column-part e =
       part-of (x .run) (x .reads) (x .column) (record-any rows records body (p .column) e) (x .placed) (x .there) (x .room)
+
+  -- the width by the kind
+  pub column-width : {kind width : ℕ} → kind ≡ columnOf s (p .column) .kind → width ≡ bytesIn (widthAt kind) → width ≡ widthOf s (p .column)
+  unfolding widthOf
+  column-width e q = q ∙ ap (λ (i : ℕ). bytesIn (widthAt i)) e
 
 -- ---- copy_part
 
@@ -161,6 +168,16 @@ module _ {w : World} {b : Batch} {x : Sources} {from n : ℕ} (a : Taking w b x 
 
           taken-stop : (w₀ : World) {m : ℕ} → forEach (w .state .columns) (λ u i. columnCopied w₀ u b i from n) w ≡ refuse m → partTaken w₀ w b from n ≡ refuse m
           taken-stop w₀ e = taken-is w₀ w b from n ∙ ap (λ (r : Res). bind r (λ u. ok (buffering u (u .state .buffered .0 + n)))) e
+
+  module _ {c : ℕ} {v : World} (k : CopiedTo w b x from n c v) (h : c < w .state .columns) where
+    -- what copy_as_is asks, and what it leaves
+    pub as-is-asks : {place : ℕ} → place ≡ valuesPlace (w .state) (w .state .place) c → (Part v b (recordOf b c) (rowsAt k h place)) × (getD (w .state .column) c noColumn .kind ≡ columnOf (v .state) c .kind)
+    unfolding columnOf
+    as-is-asks e = (copied-asks k h e .0, sym (k .along .beside .set-up .kind c))
+
+    pub copied-as-is : (place : ℕ) {slots′ : List ℕ} → getD (x .column) c noSource .way ≡ Way.Copied → copiedBy v b (rowsAt k h place) Way.Copied ≡ ok (world (v .state) slots′ (v .pool) (v .books)) → CopiedTo w b x from n (c + 1) (world (v .state) slots′ (v .pool) (v .books))
+    copied-as-is place y e =
+        copied-more k h place {q = record { state = v .state; number = 0 }} (steps-done (ap (λ (i : Way). copiedBy v b (rowsAt k h place) i) y ∙ e)) refl
 
   pub copied-all : {c : ℕ} {t : BatchCoalescer} {slots pool books : List ℕ} → CopiedTo w b x from n c (world t slots pool books) → c ≤ w .state .columns → w .state .columns ≤ c → Takes w b x from n (record { state = withCounts t (t .place) (t .queued) (w .state .buffered .0 + n); number = 0 }) slots pool books
   copied-all {c} {t} {slots} {pool} {books} k l m =

@@ -5,11 +5,12 @@ ghost use Prim.Native.Nat.{_+_, _≤_, _<_};
 ghost use mathlib.Core.List.{[]};
 ghost use lib.ListN.{length};
 ghost use Rattle.tallies.specs.Tally.{withTally};
-ghost use Rattle.state.specs.World.{world};
+ghost use Rattle.state.specs.World.{world, columnOf};
 ghost use Rattle.state.specs.Layout.{valuesPlace, slotsLength, booksLength, tally, nextSlot};
 ghost use Rattle.layout.specs.Few.{Few};
 ghost use Rattle.rules.specs.Batch.{batch, recordOf};
-ghost use Rattle.rules.specs.Steps.{withCounts};
+ghost use Rattle.rules.specs.declared.Way.{Way};
+ghost use Rattle.rules.specs.Steps.{ok, withCounts};
 ghost use Rattle.rules.specs.Push.{finished, ifFull, coalesced, stepped};
 ghost use Rattle.columns.specs.Pushing.{Running, Pushing};
 ghost use Rattle.columns.specs.Step.{Steps};
@@ -21,6 +22,7 @@ use columns::Step;
 use counts::RowCount;
 use primitive::Rows;
 use rules::ColumnRecord;
+use rules::Way;
 use state::BatchCoalescer;
 use tallies::Tally;
 use trial::Route;
@@ -57,6 +59,28 @@ fn copy_column(
     in_progress::copy_rows(s, slots, pool, books, records, body, rows, r, source, p)
 }
 
+// Rows of one column that is copied as it stands: no state is changed, and none is handed back.
+fn copy_as_is(
+    s: BatchCoalescer,
+    slots: &mut [u8],
+    pool: &[u8],
+    books: &[u8],
+    records: &[u8],
+    body: &[u8],
+    rows: u32,
+    kind: u32,
+    p: Rows,
+)
+    requires { ⌜ (Part (world s (now slots) (now pool) (now books)) (batch rows (now records) (now body)) (recordOf (batch rows (now records) (now body)) (p .column)) p)
+        × (kind ≡ columnOf s (p .column) .kind) ⌝ }
+    ensures { λ _. ⌜ copiedBy (world s (now (slots .entry)) (now (pool .entry)) (now (books .entry))) (batch rows (now (records .entry)) (now (body .entry))) p Way.Copied
+        ≡ ok (world s (now (slots .exit)) (now (pool .entry)) (now (books .entry))) ⌝ }
+{
+    let r = checks::record_at(records, p.column);
+    let width = layout::width_in(kind);
+    in_progress::copy_plain(s, slots, pool, books, records, body, rows, r, width, p);
+}
+
 // n rows of every column from row `from` on, copied and buffered.
 fn copy_part(
     s: BatchCoalescer,
@@ -87,14 +111,22 @@ fn copy_part(
             from,
             count: n,
         };
-        let step = copy_column(t, slots, pool, books, records, body, rows, source, p);
-        if step.number == 0 {
-            t = step.state;
-        } else {
-            return step;
-        }
-        place = next_place(s, c, place);
+        let column = s.column[at];
+        let kind = column.kind;
+        place = place + layout::column_size(kind, s.rows.0, s.lists);
         c += 1;
+        let way = source.way;
+        match way {
+            Way::Copied => copy_as_is(t, slots, pool, books, records, body, rows, kind, p),
+            _ => {
+                let step = copy_column(t, slots, pool, books, records, body, rows, source, p);
+                if step.number == 0 {
+                    t = step.state;
+                } else {
+                    return step;
+                }
+            }
+        }
     }
     let buffered = RowCount(s.buffered.0 + n);
     t.buffered = buffered;
