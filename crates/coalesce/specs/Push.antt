@@ -9,6 +9,8 @@ use lib.ListN.{length}
 use lib.Dec.{eqb}
 use Rattle.words.specs.WordLaws.{Bytes}
 use Rattle.columns.specs.Pushing.{Pushing}
+use Rattle.alike.specs.Like.{numberOf, Apart}
+use Rattle.trial.specs.Trial.{Restored, Tidy}
 use Rattle.trial.specs.Trying.{Unmarked}
 use Rattle.state.specs.declared.BatchCoalescer.{BatchCoalescer}
 use Rattle.state.specs.Layout.{slotsLength}
@@ -18,6 +20,9 @@ use Rattle.rules.specs.declared.Fault.{Fault}
 use Rattle.rules.specs.Batch.{Batch}
 use Rattle.rules.specs.Checks.{batchFault}
 use Rattle.rules.specs.Ranges.{tested}
+use Rattle.rules.specs.Steps.{inBooks}
+use Rattle.rules.specs.Push.{stepped}
+use Rattle.rules.specs.Calls.{Answered, orOld, pushCall}
 use Rattle.coalesce.specs.declared.Verdict.{Verdict}
 
 abbrev pub ofFault : Option Fault → Verdict
@@ -51,6 +56,31 @@ pub record Unchanged (w : World) (n : ℕ) (r : Step) (slots′ pool′ books′
 pub record Judged (x : Verdict) (w : World) (r : Step) (slots′ pool′ books′ : List ℕ) : Type 0 where
   pub nothing : x ≡ Verdict.Nothing → Unchanged w 0 r slots′ pool′ books′
   pub refused : (n : ℕ) → x ≡ Verdict.Refused n → Unchanged w n r slots′ pool′ books′
+
+-- what every history leaves, and 14 does not test: free entries are zero, and an open block is a buffer in use, another for each column
+pub record Orderly (w : World) : Type 0 where
+  pub tidy : Tidy (w .books) (w .state .numbers)
+  pub apart : Apart (w .state) (w .books)
+
+-- the code's answer, with the world that it leaves
+abbrev pub answered : Step → List ℕ → List ℕ → List ℕ → Answered
+answered r slots pool books = record { number = r .number; world = world (r .state) slots pool books }
+
+-- the steps of a push that passed its tests: what they make of the books that its trial left, which are those before it but for entries of free
+-- numbers; and the number, whichever of the two books they are worked out from
+pub record Does (w : World) (b : Batch) (r : Step) (slots′ pool′ books′ : List ℕ) : Type 0 where
+  pub after : List ℕ
+  pub restored : Restored (w .books) after (w .state .numbers)
+  pub exact : Apart (w .state) (w .books) → answered r slots′ pool′ books′ ≡ orOld (inBooks w after) (stepped (inBooks w after) b)
+  pub number : Apart (w .state) (w .books) → r .number ≡ numberOf (stepped w b)
+
+-- push_batch: answer, state, slots, pool and books are those of the call; the number is where only the open blocks are in order; and whatever
+-- state is handed in, what its tests refuse changes nothing
+pub record Pushes (w : World) (b : Batch) (r : Step) (slots′ pool′ books′ : List ℕ) : Type 0 where
+  pub exact : Orderly w → answered r slots′ pool′ books′ ≡ pushCall w b
+  pub number : Apart (w .state) (w .books) → r .number ≡ pushCall w b .number
+  pub judged : Judged (verdictOf w b) w r slots′ pool′ books′
+  pub done : verdictOf w b ≡ Verdict.Go → Does w b r slots′ pool′ books′
 
 -- so a call that its tests answer with n
 pub record Refuses (n : ℕ) (w : World) (r : Step) (slots′ pool′ books′ : List ℕ) : Type 0 where

@@ -32,8 +32,9 @@ use Rattle.rules.specs.Steps.{ok, refuse}
 use Rattle.rules.specs.Push.{pushed, stepped}
 use Rattle.rules.specs.Ranges.{tested}
 use Rattle.trial.specs.UnmarkedLaws.{tested-unmarked}
-use Rattle.trial.specs.declared.Sources.{Sources}
-use Rattle.trial.specs.Trial.{Sourced, Restored}
+use Rattle.routes.specs.declared.Sources.{Sources}
+use Rattle.routes.specs.Sourced.{Sourced}
+use Rattle.trial.specs.Trial.{Restored}
 use Rattle.trial.specs.RestoredLaws.{restored-pushing, restored-sourced}
 use Rattle.coalesce.specs.declared.Verdict.{Verdict}
 use Rattle.coalesce.specs.Push.{ofFault, verdictOf, Judges, Ready, Judged, Refuses}

@@ -4,7 +4,7 @@
 ghost use Rattle.state.specs.World.{world};
 ghost use Rattle.rules.specs.Batch.{batch};
 ghost use Rattle.rules.specs.Ranges.{tested};
-ghost use Rattle.coalesce.specs.Push.{verdictOf, Judges, Ready, Judged, Refuses};
+ghost use Rattle.coalesce.specs.Push.{Judges, Ready, Does, Pushes, Refuses};
 use columns::Step;
 use counts::RowCount;
 use state::BatchCoalescer;
@@ -56,13 +56,17 @@ fn push_judged(
     rows: u32,
 ) -> Step
     requires { ⌜ Ready s (now slots) (now pool) (now books) (batch rows (now records) (now body)) ⌝ }
+    ensures { λ r. ⌜ Does (world s (now (slots .entry)) (now (pool .entry)) (now (books .entry))) (batch rows (now (records .entry)) (now (body .entry))) r (now (slots .exit)) (now (pool .exit)) (now (books .exit)) ⌝ }
 {
-    let sources = trial::set_sources(s, books, records, body, rows);
-    let number = trial::room_refusal(s, books, records, body, sources, rows);
-    if number == 0 {
+    let sources = routes::set_sources(s, books, records, body, rows);
+    let lacking = trial::room_refusal(s, books, records, body, sources, rows);
+    if lacking == 0 {
         steps::push_rows(s, slots, pool, books, records, body, sources, rows)
     } else {
-        Step { state: s, number }
+        Step {
+            state: s,
+            number: lacking,
+        }
     }
 }
 
@@ -76,7 +80,7 @@ pub fn push_batch(
     body: &[u8],
     rows: RowCount,
 ) -> Step
-    ensures { λ r. ⌜ Judged (verdictOf (world s (now (slots .entry)) (now (pool .entry)) (now (books .entry))) (batch (rows .0) (now (records .entry)) (now (body .entry)))) (world s (now (slots .entry)) (now (pool .entry)) (now (books .entry))) r (now (slots .exit)) (now (pool .exit)) (now (books .exit)) ⌝ }
+    ensures { λ r. ⌜ Pushes (world s (now (slots .entry)) (now (pool .entry)) (now (books .entry))) (batch (rows .0) (now (records .entry)) (now (body .entry))) r (now (slots .exit)) (now (pool .exit)) (now (books .exit)) ⌝ }
 {
     let verdict = judge(s, slots, pool, books, records, body, rows.0);
     match verdict {

@@ -18,7 +18,7 @@ use Rattle.going.specs.PartGoes.{taken-goes}
 use Rattle.going.specs.FinishGoes.{rows-small, finished-goes}
 use Rattle.columns.specs.declared.Step.{Step}
 use Rattle.columns.specs.Step.{Steps}
-use Rattle.trial.specs.declared.Sources.{Sources}
+use Rattle.routes.specs.declared.Sources.{Sources}
 use Rattle.steps.specs.Taking.{Taking, TakesThen, Cutting}
 
 -- the rows before `from` are taken, and the slot is not full; cutting the rest from here gives what the whole gives

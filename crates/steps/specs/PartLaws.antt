@@ -30,8 +30,8 @@ use Rattle.columns.specs.declared.Step.{Step}
 use Rattle.columns.specs.Column.{sourceFor}
 use Rattle.columns.specs.Step.{Steps, steps-done, steps-next, steps-stop}
 use Rattle.columns.specs.SourceLaws.{run-few}
-use Rattle.trial.specs.declared.Sources.{Sources}
-use Rattle.trial.specs.Trial.{noSource, Sourced}
+use Rattle.routes.specs.declared.Sources.{Sources}
+use Rattle.routes.specs.Sourced.{noSource, Sourced}
 use Rattle.in_progress.specs.Part.{Part, Decided, copiedBy}
 use Rattle.in_progress.specs.AskLaws.{run-booked}
 use Rattle.in_progress.specs.CallerLaws.{part-of, decided-at, copied-is}

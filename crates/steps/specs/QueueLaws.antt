@@ -31,11 +31,11 @@ use Rattle.columns.specs.declared.Step.{Step}
 use Rattle.columns.specs.Step.{Steps, steps-done, steps-refused, steps-next, steps-stop}
 use Rattle.columns.specs.Pushing.{Pushing}
 use Rattle.columns.specs.SourceLaws.{list-same, source-same}
-use Rattle.trial.specs.declared.Route.{Route}
-use Rattle.trial.specs.declared.Sources.{Sources}
-use Rattle.trial.specs.Trial.{Sourced}
-use Rattle.trial.specs.Route.{routeOf, wholeRefusal}
-use Rattle.trial.specs.RouteLaws.{whole-same, whole-refuses, whole-goes, route-says-whole, route-says-first, route-says-on}
+use Rattle.routes.specs.declared.Route.{Route}
+use Rattle.routes.specs.declared.Sources.{Sources}
+use Rattle.routes.specs.Sourced.{Sourced}
+use Rattle.routes.specs.Route.{routeOf, wholeRefusal}
+use Rattle.routes.specs.RouteLaws.{whole-same, whole-refuses, whole-goes, route-says-whole, route-says-first, route-says-on}
 use Rattle.in_progress.specs.AskLaws.{zeros, length-zeros, run-booked, booked-few, booked-place, booked-books}
 use Rattle.in_progress.specs.CallerLaws.{running-booked}
 use Rattle.steps.specs.Taking.{Closable, Finishes, Cutting, rowsWhole, Columned, LaysColumn, Asks, Wholly, LaysColumns, QueuesWhole, QueuesFirst}

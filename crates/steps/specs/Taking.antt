@@ -17,8 +17,8 @@ use Rattle.going.specs.Firm.{Firm}
 use Rattle.going.specs.Along.{Along}
 use Rattle.columns.specs.declared.Step.{Step}
 use Rattle.columns.specs.Step.{Steps}
-use Rattle.trial.specs.declared.Sources.{Sources}
-use Rattle.trial.specs.Trial.{Sourced}
+use Rattle.routes.specs.declared.Sources.{Sources}
+use Rattle.routes.specs.Sourced.{Sourced}
 use Rattle.in_progress.specs.Part.{Booked}
 
 -- ---- finishing

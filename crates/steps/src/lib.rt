@@ -14,19 +14,19 @@ ghost use Rattle.rules.specs.Steps.{ok, withCounts};
 ghost use Rattle.rules.specs.Push.{finished, ifFull, coalesced, stepped};
 ghost use Rattle.columns.specs.Pushing.{Running, Pushing};
 ghost use Rattle.columns.specs.Step.{Steps};
-ghost use Rattle.trial.specs.Trial.{Sourced};
+ghost use Rattle.routes.specs.Sourced.{Sourced};
 ghost use Rattle.in_progress.specs.Part.{Part, Decided, copiedBy};
 ghost use Rattle.steps.specs.Taking.{Closable, ClosesOne, ClosesAll, Finishes, FinishesFull, Taking, Takes, TakesThen, Cutting, Rowed, LaysRows, Columned, LaysColumn, Wholly, LaysColumns, Asks, QueuesWhole, QueuesFirst};
 use byte_view::Source;
 use columns::Step;
 use counts::RowCount;
 use primitive::Rows;
+use routes::Route;
+use routes::Sources;
 use rules::ColumnRecord;
 use rules::Way;
 use state::BatchCoalescer;
 use tallies::Tally;
-use trial::Route;
-use trial::Sources;
 
 // Where the next column of the slot being filled begins.
 fn next_place(s: BatchCoalescer, c: u32, place: usize) -> usize
@@ -175,7 +175,7 @@ fn queue_slot(s: BatchCoalescer, books: &mut [u8], rows: u32) -> BatchCoalescer
         word: 0,
     };
     tallies::put_tally(books, t, rows);
-    trial::next_to_fill(s)
+    routes::next_to_fill(s)
 }
 
 // Finishing, however many rows are buffered.
@@ -401,7 +401,7 @@ fn queue_whole(
     requires { ⌜ Asks s (now slots) (now books) (batch rows (now records) (now body)) ⌝ }
     ensures { λ q. ⌜ QueuesWhole s (now (slots .entry)) (now (books .entry)) (batch rows (now (records .entry)) (now (body .entry))) q (now (slots .exit)) (now (books .exit)) ⌝ }
 {
-    let number = trial::try_whole(s, books, records);
+    let number = routes::try_whole(s, books, records);
     if number == 0 {
         copy_columns(s, slots, books, records, body, rows);
         let t = queue_slot(s, books, rows);
@@ -451,7 +451,7 @@ pub fn push_rows(
     ensures { λ q. ⌜ Steps (stepped (world s (now (slots .entry)) (now (pool .entry)) (now (books .entry))) (batch rows (now (records .entry)) (now (body .entry))))
         q (now (slots .exit)) (now (pool .exit)) (now (books .exit)) ⌝ }
 {
-    let route = trial::route_of(s, rows);
+    let route = routes::route_of(s, rows);
     match route {
         Route::Coalesce => coalesce_rows(s, slots, pool, books, records, body, rows, sources),
         Route::Whole => queue_whole(s, slots, books, records, body, rows),

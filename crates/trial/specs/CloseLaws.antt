@@ -22,7 +22,8 @@ use Rattle.going.specs.BooksGo.{go-refl}
 use Rattle.going.specs.Firm.{FirmGoes, run-firm, firm-run, firm-goes, same-list-length}
 use Rattle.going.specs.StepGoes.{column-cases, column-new, with-column-goes}
 use Rattle.going.specs.FinishGoes.{Shut, shut-spare}
-use Rattle.trial.specs.Trying.{Trying, Tries, TriesColumn, TriesFinish, Closes, closedAt}
+use Rattle.alike.specs.Tells.{closedAt}
+use Rattle.trial.specs.Trying.{Trying, Tries, TriesColumn, TriesFinish, Closes}
 use Rattle.trial.specs.TryingLaws.{marks-refl, trying-roomy, tries-none}
 
 not-number : (k : BufferNumber) → OpenBlock.Closed ≡ OpenBlock.Number k → ⊥

@@ -1,6 +1,5 @@
--- What is decided of a batch, what a trial leaves, and the laws that the proofs cite.
+-- What a trial leaves, what holds while it goes on, and the laws that the proofs cite.
 pub mod Trial
-pub mod Route
 pub mod Trying
 pub mod TryingLaws
 pub mod MarkLaws
@@ -9,5 +8,5 @@ pub mod CloseLaws
 pub mod PartLaws
 pub mod SourcedLaws
 pub mod RestoredLaws
+pub mod NumberLaws
 pub mod UnmarkedLaws
-pub mod RouteLaws

@@ -1,21 +1,29 @@
 -- The end of a trial: marked entries become zero, and the books are as they were but for entries of free numbers.
 use Prim.Native.Nat.{ℕ, _+_, _*_, _≤_, _<_}
 use mathlib.Core.Path.{_≡_, refl, sym, _∙_, ap}
+use mathlib.Core.Bool.{Bool, true, false}
 use mathlib.Core.List.{List}
 use native.Mathlib.Omega.{arith}
+use native.Mathlib.Decide.{decLt}
+use borrow.Author.Tests.{le-ltb}
 use lib.ListN.{length}
 use Rattle.words.specs.Word.{word32}
 use Rattle.words.specs.FrameLaws.{framed-trans}
-use Rattle.books.specs.Entry.{usedOf, entryOf}
+use Rattle.books.specs.Entry.{usedOf, entryOf, isFreeAt}
 use Rattle.listings.specs.Listing.{withUsed}
 use Rattle.listings.specs.ListingLaws.{used-withUsed}
 use Rattle.sound.specs.Change.{Roomy, Changed}
 use Rattle.sound.specs.OpLaws.{changed-none, used-lt, used-entry, used-changed}
-use Rattle.room.specs.Trial.{wiped as allWiped, untried}
+use Rattle.room.specs.Trial.{isTrial, wiped as allWiped, untried}
 use Rattle.room.specs.Back.{cleared, Wiped}
 use Rattle.room.specs.BackLaws.{wiped-roomy, wiped-first, cleared-marked, cleared-not}
 use Rattle.trial.specs.Trial.{Same, kept, wiped, Restored}
 use Rattle.trial.specs.Trying.{Unmarked, Still, still, marked, Marks}
+
+-- a number that is not in use is free
+free-beyond : (s : List ℕ) (k : ℕ) → usedOf s ≤ k → isFreeAt s k ≡ true
+unfolding isFreeAt
+free-beyond s k l = rw (le-ltb k (usedOf s) l)
 
 used-is : (s : List ℕ) → usedOf s ≡ word32 s 0
 unfolding usedOf
@@ -41,11 +49,25 @@ module _ {s t : List ℕ} {n : ℕ} (r : Roomy s n) (u : Unmarked s) (m : Marks 
   used-put : Changed ended (withUsed ended (usedOf s)) n 0 (entryOf ended 0)
   used-put = used-changed (changed-none 0 back) (usedOf s) (used-lt r)
 
-  entry-back : (k : ℕ) → k < usedOf s → Still s t k → Same s (withUsed ended (usedOf s)) k
-  entry-back k h (still e) =
-      kept (used-entry ended (usedOf s) k ∙ cleared-all .done k (omega (arith, m .more)) ∙ ap cleared e ∙ cleared-not (entryOf s k) (u .holds k h))
-  entry-back k h (marked f q) =
-      wiped f (used-entry ended (usedOf s) k ∙ cleared-all .done k (omega (arith, m .more)) ∙ cleared-marked (entryOf t k) q)
+  -- an entry that was wiped, of a number that was not in use
+  beyond-back : (k : ℕ) → k < usedOf t → usedOf s ≤ k → entryOf t k ≡ entryOf s k → Same s (withUsed ended (usedOf s)) k
+  unfolding cleared
+  beyond-back k h l e = go (isTrial (entryOf t k)) refl
+    where
+      at : entryOf (withUsed ended (usedOf s)) k ≡ cleared (entryOf t k)
+      at = used-entry ended (usedOf s) k ∙ cleared-all .done k h
+
+      go : (b : Bool) → isTrial (entryOf t k) ≡ b → Same s (withUsed ended (usedOf s)) k
+      go true z = wiped (free-beyond s k l) (at ∙ rw z)
+      go false z = kept (at ∙ rw z e)
+
+  entry-back : (k : ℕ) → Still s t k → Dec (k < usedOf s) → Dec (k < usedOf t) → Same s (withUsed ended (usedOf s)) k
+  entry-back k (still e) d (no o) = kept (used-entry ended (usedOf s) k ∙ cleared-all .left k (omega arith) ∙ e)
+  entry-back k (still e) (yes d) (yes o) =
+      kept (used-entry ended (usedOf s) k ∙ cleared-all .done k o ∙ ap cleared e ∙ cleared-not (entryOf s k) (u .holds k d))
+  entry-back k (still e) (no d) (yes o) = beyond-back k o (omega arith) e
+  entry-back k (marked f q h) d o =
+      wiped f (used-entry ended (usedOf s) k ∙ cleared-all .done k h ∙ cleared-marked (entryOf t k) q)
 
   ends : Restored s (withUsed ended (usedOf s)) n
   ends =
@@ -53,7 +75,7 @@ module _ {s t : List ℕ} {n : ℕ} (r : Roomy s n) (u : Unmarked s) (m : Marks 
         lengths = used-put .framed .len ∙ cleared-all .framed .len ∙ m .framed .len;
         bytes = used-put .bytes;
         used = used-withUsed ended (usedOf s) (omega (arith, back .room)) (used-lt r);
-        entries = λ k h. entry-back k h (m .each k h);
+        entries = λ k h. entry-back k (m .each k h) (decLt k (usedOf s)) (decLt k (usedOf t));
         framed = framed-trans (m .framed) (framed-trans (cleared-all .framed) (used-put .framed));
       }
 

@@ -5,13 +5,12 @@ use mathlib.Core.Bool.{true}
 use mathlib.Core.List.{List, []}
 use native.Mathlib.Omega.{arith}
 use native.Mathlib.Decide.{ℕ-discrete}
-use borrow.Author.Tests.{lt-ltb}
 use Rattle.counts.specs.declared.ByteSum.{ByteSum}
 use Rattle.blocks.specs.declared.NextSize.{NextSize}
 use Rattle.blocks.specs.declared.BufferSource.{BufferSource}
 use Rattle.blocks.specs.Block.{asked}
 use Rattle.books.specs.declared.Entry.{Entry}
-use Rattle.books.specs.Entry.{usedOf, entryOf, isFree, isFreeAt}
+use Rattle.books.specs.Entry.{usedOf, entryOf}
 use Rattle.listings.specs.Listing.{taken}
 use Rattle.pool.specs.Register.{isHeld}
 use Rattle.sound.specs.Change.{Changed}
@@ -35,6 +34,7 @@ use Rattle.going.specs.Firm.{run-firm, same-list-length, within-goes}
 use Rattle.going.specs.StepGoes.{with-column-goes}
 use Rattle.going.specs.OpenGoes.{asked-some}
 use Rattle.going.specs.CallerLaws.{run-bounds}
+use Rattle.alike.specs.Like.{sizeFor, Took, Buffers}
 use Rattle.trial.specs.Trying.{Trying, Still, still, marked, Marks, TriesColumn}
 use Rattle.trial.specs.TryingLaws.{column-none}
 
@@ -112,14 +112,10 @@ module _ {s : List ℕ} {n p : ℕ} (capacity : ℕ) (r : BooksRun s n p) (room 
         start = λ k h. start-at k h (ℕ-discrete k i);
       }
 
-  free : i < usedOf s → isFreeAt s i ≡ true → isFree (entryOf s i) ≡ true
-  unfolding isFreeAt
-  free h e = rw (lt-ltb i (usedOf s) h) at e
-
-  still-at : (k : ℕ) → k < usedOf s → Dec (k ≡ i) → Still s t k
-  still-at k h (yes d) =
-      rw d (marked (free (rw d at h) (f .number .accepted)) (ap (λ (e : Entry). e .hold) (changed .same)))
-  still-at k h (no d) = still (changed .other k d)
+  still-at : (k : ℕ) → Dec (k ≡ i) → Still s t k
+  still-at k (yes d) =
+      rw d (marked (f .number .accepted) (ap (λ (e : Entry). e .hold) (changed .same)) (taken-in i mark r (f .number .below)))
+  still-at k (no d) = still (changed .other k d)
 
   mark-marks : Marks s t n
   mark-marks =
@@ -128,7 +124,7 @@ module _ {s : List ℕ} {n p : ℕ} (capacity : ℕ) (r : BooksRun s n p) (room 
         bytes = changed .bytes;
         more = mark-go .used;
         used = mark-go .run .used;
-        each = λ k h. still-at k h (ℕ-discrete k i);
+        each = λ k h. still-at k (ℕ-discrete k i);
       }
 
 -- ---- the state
@@ -202,3 +198,48 @@ buffer-opened {s} {books} c n min {k} {a} {r} {t} {room} {v} x h y m l e q o g z
     let some : 1 ≤ a .source .current .0 = rw (q, e) (asked-some (columnOf s c .source) min (x .run .kept c h y)) in
     rw (b .1, z)
     (opens x c h y (omega arith) (a .source) some (a .size .0) room (room-says books (s .numbers) (s .pool .0) (a .size .0) room (b .0)))
+
+-- ---- the same ways out, as the push sees them
+
+pub buffers-full : {s : BatchCoalescer} {books : List ℕ} (c n min : ℕ) → s .lists ≤ n → Buffers s books c n min (record { state = s; number = 10 }) books
+buffers-full c n min l =
+    record {
+      full = λ h. refl;
+      refused = λ h number e. absurd (omega arith);
+      opened = λ h room e. absurd (omega arith);
+    }
+
+module _ (s : BatchCoalescer) (books : List ℕ) (c n : ℕ) (min : ByteSum) {k : Column} {a : NextSize} (l : n < s .lists) (e : k ≡ columnOf s c) (q : a ≡ asked (k .source) min) where
+  asked-at : a ≡ asked (columnOf s c .source) min
+  asked-at = q ∙ ap (λ (x : Column). asked (x .source) min) e
+
+  size-at : a .size .0 ≡ sizeFor s c (min .0)
+  size-at = ap (λ (x : NextSize). x .size .0) asked-at
+
+  pub buffers-refused : {r : Chosen} {t : List ℕ} {number : ℕ} → Opens (tried books (s .numbers) (s .pool .0) (a .size .0)) t r → r ≡ Chosen.Refused number → Buffers s books c n (min .0) (record { state = s; number = number }) t
+  buffers-refused {r} {t} {number} o g =
+      record {
+        full = λ h. absurd (omega arith);
+        refused = λ h m z. let p : Chosen.Refused number ≡ Chosen.Refused m = sym says ∙ z in cc;
+        opened = λ h room z. let p : Chosen.Refused number ≡ Chosen.At room = sym says ∙ z in let i : _≡_ {A = ℕ} 0 1 = cc in absurd (omega arith);
+      }
+    where
+      says : chosen books (s .numbers) (s .pool .0) (sizeFor s c (min .0)) ≡ Chosen.Refused number
+      says = rw (← size-at) (sym (tried-answer books (s .numbers) (s .pool .0) (a .size .0)) ∙ sym (o .answer-is) ∙ g)
+
+  pub buffers-opened : {r : Chosen} {t : List ℕ} {room : Room} {v : BatchCoalescer} → Opens (tried books (s .numbers) (s .pool .0) (a .size .0)) t r → r ≡ Chosen.At room → v ≡ withColumn s c (a .source) (OpenBlock.Number (room .number)) → Buffers s books c n (min .0) (record { state = v; number = 0 }) t
+  buffers-opened {r} {t} {room} {v} o g x =
+      record {
+        full = λ h. absurd (omega arith);
+        refused = λ h m z. let p : Chosen.At room ≡ Chosen.Refused m = sym says ∙ z in let i : _≡_ {A = ℕ} 0 1 = cc in absurd (omega arith);
+        opened = λ h room′ z. let p : Chosen.At room ≡ Chosen.At room′ = sym says ∙ z in let i : room ≡ room′ = cc in rw (← i) took;
+      }
+    where
+      b : (chosen books (s .numbers) (s .pool .0) (a .size .0) ≡ Chosen.At room) × (t ≡ taken books (room .number .0) (entryAt (room .start) (a .size .0) 0 2 0))
+      b = answer-at books (s .numbers) (s .pool .0) (a .size .0) o g
+
+      says : chosen books (s .numbers) (s .pool .0) (sizeFor s c (min .0)) ≡ Chosen.At room
+      says = rw (← size-at) (b .0)
+
+      took : Took s books c (min .0) room (record { state = v; number = 0 }) t
+      took = record { number = refl; state = x ∙ ap (λ (y : NextSize). withColumn s c (y .source) (OpenBlock.Number (room .number))) asked-at; books-are = rw (← size-at) (b .1) }

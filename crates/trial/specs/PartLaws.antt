@@ -18,8 +18,8 @@ use Rattle.byte_view.specs.declared.Source.{Source}
 use Rattle.columns.specs.declared.Step.{Step}
 use Rattle.columns.specs.ExitLaws.{record-same}
 use Rattle.going.specs.StepGoes.{buffering-goes}
-use Rattle.trial.specs.declared.Sources.{Sources}
-use Rattle.trial.specs.Trial.{noSource}
+use Rattle.routes.specs.declared.Sources.{Sources}
+use Rattle.routes.specs.Sourced.{noSource}
 use Rattle.trial.specs.Trying.{Trying, Marks, Tries, TriesColumn, TriesPart, TriesFull, TriesFinish, Triable, Compactable}
 use Rattle.trial.specs.TryingLaws.{trying-bounds, trying-few, trying-place, trying-length, tries-none, tries-trans}
 

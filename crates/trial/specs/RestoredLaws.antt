@@ -4,8 +4,9 @@ use mathlib.Core.Path.{_≡_, refl, sym, _∙_, ap}
 use mathlib.Core.Bool.{true}
 use mathlib.Core.List.{List, []}
 use native.Mathlib.Omega.{arith}
+use borrow.Author.Tests.{lt-ltb}
 use Rattle.books.specs.declared.Entry.{Entry}
-use Rattle.books.specs.Entry.{usedOf, entryOf}
+use Rattle.books.specs.Entry.{usedOf, entryOf, isFree, isFreeAt}
 use Rattle.books.specs.EntryLaws.{free-says}
 use Rattle.pool.specs.Register.{isHeld}
 use Rattle.state.specs.declared.BatchCoalescer.{BatchCoalescer}
@@ -17,9 +18,15 @@ use Rattle.columns.specs.Pushing.{Pushing}
 use Rattle.going.specs.Run.{Run}
 use Rattle.going.specs.BooksGo.{BooksRun, BooksGo, held-says, held-is}
 use Rattle.going.specs.Firm.{run-firm, reads-go, within-goes}
-use Rattle.trial.specs.declared.Sources.{Sources}
-use Rattle.trial.specs.Trial.{Sourced, Same, kept, wiped, Restored}
+use Rattle.routes.specs.declared.Sources.{Sources}
+use Rattle.routes.specs.Sourced.{Sourced}
+use Rattle.trial.specs.Trial.{Same, kept, wiped, Restored}
 use Rattle.trial.specs.TryingLaws.{running-trying}
+
+-- the entry of a number in use that is free
+pub free-used : (s : List ℕ) (k : ℕ) → k < usedOf s → isFreeAt s k ≡ true → isFree (entryOf s k) ≡ true
+unfolding isFreeAt
+free-used s k l f = rw (lt-ltb k (usedOf s) l) at f
 
 module _ {s t : List ℕ} {n p : ℕ} (r : BooksRun s n p) (b : Restored s t n) where
   inside-at : (k : ℕ) → k < usedOf s → Same s t k → entryOf t k .start + entryOf t k .capacity .0 ≤ p
@@ -32,11 +39,11 @@ module _ {s t : List ℕ} {n p : ℕ} (r : BooksRun s n p) (b : Restored s t n) 
 
   -- what is held is not free, so it is kept
   held-at : (k : ℕ) → isHeld s k ≡ true → entryOf t k ≡ entryOf s k
-  held-at k h = let a = held-says s k h in go (a .1) (b .entries k (a .0))
+  held-at k h = let a = held-says s k h in go (a .0) (a .1) (b .entries k (omega (arith, a .0, r .used)))
     where
-      go : (entryOf s k .hold ≡ 0 → ⊥) → Same s t k → entryOf t k ≡ entryOf s k
-      go m (kept e) = e
-      go m (wiped f e) = absurd (m (free-says (entryOf s k) f .0))
+      go : k < usedOf s → (entryOf s k .hold ≡ 0 → ⊥) → Same s t k → entryOf t k ≡ entryOf s k
+      go l m (kept e) = e
+      go l m (wiped f e) = absurd (m (free-says (entryOf s k) (free-used s k l f) .0))
 
   restored-go : BooksGo s t n p
   restored-go =
@@ -45,8 +52,8 @@ module _ {s t : List ℕ} {n p : ℕ} (r : BooksRun s n p) (b : Restored s t n) 
             record {
               roomy = record { bytes = b .bytes; room = omega (arith, r .roomy .room, b .lengths); few = r .roomy .few };
               used = omega (arith, b .used, r .used);
-              inside = λ k h. let g : k < usedOf s = omega (arith, b .used) in inside-at k g (b .entries k g);
-              filled = λ k h. let g : k < usedOf s = omega (arith, b .used) in filled-at k g (b .entries k g);
+              inside = λ k h. let g : k < usedOf s = omega (arith, b .used) in inside-at k g (b .entries k (omega (arith, r .used)));
+              filled = λ k h. let g : k < usedOf s = omega (arith, b .used) in filled-at k g (b .entries k (omega (arith, r .used)));
             };
         len = b .lengths;
         used = omega (arith, b .used);

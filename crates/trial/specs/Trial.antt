@@ -1,35 +1,38 @@
--- What is decided of every column of a batch, and what a trial leaves of the books.
+-- What a trial answers, and what it leaves of the books.
 use Prim.Native.Nat.{ℕ, _+_, _*_, _<_}
 use mathlib.Core.Path.{_≡_}
 use mathlib.Core.Bool.{true}
 use mathlib.Core.List.{List}
-use lib.ListN.{length, getD}
+use lib.ListN.{length}
 use Rattle.words.specs.WordLaws.{Bytes}
 use Rattle.words.specs.Frame.{Framed}
-use Rattle.books.specs.Entry.{usedOf, entryOf, isFree}
+use Rattle.books.specs.Entry.{usedOf, entryOf, isFreeAt}
 use Rattle.listings.specs.Listing.{noEntry}
-use Rattle.byte_view.specs.declared.Source.{Source}
-use Rattle.rules.specs.declared.Way.{Way}
+use Rattle.state.specs.declared.BatchCoalescer.{BatchCoalescer}
+use Rattle.state.specs.World.{world}
+use Rattle.state.specs.Layout.{slotsLength}
 use Rattle.rules.specs.Batch.{Batch}
-use Rattle.columns.specs.Column.{sourceFor}
-use Rattle.state.specs.World.{World}
-use Rattle.trial.specs.declared.Sources.{Sources}
-
--- what an element past the end of the array reads as
-abbrev pub noSource : Source
-noSource = record { ideal = record { 0 = 0 }; way = Way.Copied }
-
-pub record Sourced (x : Sources) (w : World) (b : Batch) : Type 0 where
-  pub each : (c : ℕ) → c < w .state .columns → getD (x .column) c noSource ≡ sourceFor w b c
+use Rattle.rules.specs.Push.{stepped}
+use Rattle.alike.specs.Like.{numberOf, Apart}
 
 -- the books as they were, but for entries of free numbers, which may have become zero (DECISIONS: a trial marks free entries and wipes them)
 pub data Same (s t : List ℕ) (k : ℕ) : Type 0 where
   kept : entryOf t k ≡ entryOf s k → Same s t k
-  wiped : isFree (entryOf s k) ≡ true → entryOf t k ≡ noEntry → Same s t k
+  wiped : isFreeAt s k ≡ true → entryOf t k ≡ noEntry → Same s t k
 
 pub record Restored (s t : List ℕ) (n : ℕ) : Type 0 where
   pub lengths : length t ≡ length s
   pub bytes : Bytes t
   pub used : usedOf t ≡ usedOf s
-  pub entries : (k : ℕ) → k < usedOf s → Same s t k
+  pub entries : (k : ℕ) → k < n → Same s t k
   pub framed : Framed 0 (4 + 20 * n) s t
+
+-- the number of a trial: the one that the steps of the push refuse with, and 0 where they do not, whatever slots and pool are lent, and with the books
+-- before the trial as with those after it. 01: "Room is worked out along the push steps; the first step without it names the number."
+pub record Answers (s : BatchCoalescer) (books : List ℕ) (b : Batch) (number : ℕ) : Type 0 where
+  pub number-is : Apart s books → (slots pool after : List ℕ) → length slots ≡ slotsLength s → length pool ≡ s .pool .0 → Restored books after (s .numbers) → numberOf (stepped (world s slots pool after) b) ≡ number
+
+-- books in which a free number has a zero entry, whether it is among those in use or not. 01: "it is free, its entry in the books is zero". Every history
+-- leaves them so; a trial then puts every byte back
+pub record Tidy (s : List ℕ) (n : ℕ) : Type 0 where
+  pub zero : (k : ℕ) → k < n → isFreeAt s k ≡ true → entryOf s k ≡ noEntry

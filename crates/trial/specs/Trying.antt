@@ -1,12 +1,12 @@
 -- What holds while a push is tried: state and books in order, the books with marked entries only gained; and what is read of the batch.
 use Prim.Native.Nat.{ℕ, _+_, _*_, _≤_, _<_}
 use mathlib.Core.Path.{_≡_}
-use mathlib.Core.Bool.{true, cond}
+use mathlib.Core.Bool.{true}
 use mathlib.Core.List.{List}
 use lib.ListN.{length, getD}
 use Rattle.words.specs.WordLaws.{Bytes}
 use Rattle.words.specs.Frame.{Framed}
-use Rattle.books.specs.Entry.{usedOf, entryOf, isFree}
+use Rattle.books.specs.Entry.{usedOf, entryOf, isFreeAt}
 use Rattle.state.specs.declared.BatchCoalescer.{BatchCoalescer}
 use Rattle.state.specs.declared.OpenBlock.{OpenBlock}
 use Rattle.state.specs.World.{world, columnOf}
@@ -14,12 +14,11 @@ use Rattle.state.specs.Layout.{isViews}
 use Rattle.rules.specs.declared.ColumnRecord.{ColumnRecord}
 use Rattle.rules.specs.declared.Way.{Way}
 use Rattle.rules.specs.Batch.{Batch, recordOf}
-use Rattle.rules.specs.Steps.{withColumn}
 use Rattle.rules.specs.Stays.{SameSetUp}
 use Rattle.columns.specs.declared.Step.{Step}
 use Rattle.going.specs.Run.{Run}
-use Rattle.trial.specs.declared.Sources.{Sources}
-use Rattle.trial.specs.Trial.{noSource}
+use Rattle.routes.specs.declared.Sources.{Sources}
+use Rattle.routes.specs.Sourced.{noSource}
 
 -- no buffer in use bears the mark of a trial (14 tests it)
 pub record Unmarked (s : List ℕ) : Type 0 where
@@ -33,10 +32,10 @@ pub record Trying (s : BatchCoalescer) (books : List ℕ) : Type 0 where
   pub pool : List ℕ
   pub run : Run (world s slots pool books)
 
--- the entry of a number that was in use: as it was, or free before and marked now
+-- the entry of a number: as it was, or free before and marked now
 pub data Still (s t : List ℕ) (k : ℕ) : Type 0 where
   still : entryOf t k ≡ entryOf s k → Still s t k
-  marked : isFree (entryOf s k) ≡ true → entryOf t k .hold ≡ 2 → Still s t k
+  marked : isFreeAt s k ≡ true → entryOf t k .hold ≡ 2 → k < usedOf t → Still s t k
 
 -- t are the books s with entries marked
 pub record Marks (s t : List ℕ) (n : ℕ) : Type 0 where
@@ -44,7 +43,7 @@ pub record Marks (s t : List ℕ) (n : ℕ) : Type 0 where
   pub bytes : Bytes t
   pub more : usedOf s ≤ usedOf t
   pub used : usedOf t ≤ n
-  pub each : (k : ℕ) → k < usedOf s → Still s t k
+  pub each : (k : ℕ) → k < n → Still s t k
 
 -- what every step of a trial leaves, refused or not
 pub record Tries (s : BatchCoalescer) (books : List ℕ) (t : BatchCoalescer) (books′ : List ℕ) : Type 0 where
@@ -71,10 +70,6 @@ pub record TriesFull (s : BatchCoalescer) (books : List ℕ) (r : Step) (books�
 pub record TriesFinish (s : BatchCoalescer) (r : Step) : Type 0 where
   pub tries : (books : List ℕ) → Trying s books → Tries s books (r .state) books
   pub empty : r .number ≡ 0 → r .state .buffered .0 ≡ 0
-
--- the state with the block of column c closed, where it is one of views
-unfoldable pub closedAt : BatchCoalescer → ℕ → BatchCoalescer
-closedAt s c = cond (isViews s c) (withColumn s c (columnOf s c .source) OpenBlock.Closed) s
 
 -- t is s with the blocks of the first n columns closed
 pub record Closes (s t : BatchCoalescer) (n : ℕ) : Type 0 where

@@ -1,13 +1,16 @@
 -- What a state and books in order give the code, and how steps of a trial follow one another.
 use Prim.Native.Nat.{ℕ, _+_, _*_, _≤_, _<_}
 use mathlib.Core.Path.{_≡_, refl, sym, _∙_, ap}
-use mathlib.Core.Bool.{true}
+use mathlib.Core.Bool.{true, cond}
 use mathlib.Core.List.{List, []}
 use native.Mathlib.Omega.{arith}
+use native.Mathlib.Decide.{decLt}
+use lib.Dec.{ltb}
+use borrow.Author.Tests.{lt-ltb, le-ltb}
 use lib.ListN.{length, replicate, length-replicate}
 use Rattle.words.specs.FrameLaws.{framed-refl, framed-trans}
 use Rattle.counts.specs.declared.BufferNumber.{BufferNumber}
-use Rattle.books.specs.Entry.{usedOf}
+use Rattle.books.specs.Entry.{usedOf, entryOf, isFree, isFreeAt}
 use Rattle.sound.specs.Change.{Roomy}
 use Rattle.state.specs.declared.BatchCoalescer.{BatchCoalescer}
 use Rattle.state.specs.declared.Column.{Column}
@@ -90,6 +93,15 @@ marks-refl {books} {n} r u =
       each = λ k h. still refl;
     }
 
+-- a number that is free later was free
+free-back : (s t : List ℕ) (k : ℕ) → usedOf s ≤ usedOf t → entryOf t k ≡ entryOf s k → isFreeAt t k ≡ true → isFreeAt s k ≡ true
+unfolding isFreeAt
+free-back s t k m e f = go (decLt k (usedOf s))
+  where
+    go : Dec (k < usedOf s) → cond (ltb k (usedOf s)) (isFree (entryOf s k)) true ≡ true
+    go (yes d) = rw (lt-ltb k (usedOf s) d, ← e) (rw (lt-ltb k (usedOf t) (omega arith)) at f)
+    go (no d) = rw (le-ltb k (usedOf s) (omega arith))
+
 pub marks-trans : {s t u : List ℕ} {n : ℕ} → Marks s t n → Marks t u n → Marks s u n
 marks-trans {s} {t} {u} a b =
     record {
@@ -97,14 +109,14 @@ marks-trans {s} {t} {u} a b =
       bytes = b .bytes;
       more = omega (arith, a .more, b .more);
       used = b .used;
-      each = λ k h. go k (a .each k h) (b .each k (omega (arith, a .more)));
+      each = λ k h. go k (a .each k h) (b .each k h);
     }
   where
     go : (k : ℕ) → Still s t k → Still t u k → Still s u k
     go k (still p) (still q) = still (q ∙ p)
-    go k (still p) (marked f m) = marked (rw p at f) m
-    go k (marked f m) (still q) = marked f (rw q m)
-    go k (marked f m) (marked g o) = marked f o
+    go k (still p) (marked f m h) = marked (free-back s t k (a .more) p f) m h
+    go k (marked f m h) (still q) = marked f (rw q m) (omega (arith, b .more))
+    go k (marked f m h) (marked g o l) = marked f o l
 
 -- ---- steps: none, and one after another
 

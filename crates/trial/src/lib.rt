@@ -7,69 +7,32 @@ ghost use mathlib.Core.List.{[]};
 ghost use lib.ListN.{length};
 ghost use Rattle.layout.specs.Few.{Few};
 ghost use Rattle.state.specs.World.{world};
-ghost use Rattle.state.specs.Layout.{isViews, booksLength, listLength, nextSlot};
+ghost use Rattle.state.specs.Layout.{isViews, listLength};
 ghost use Rattle.rules.specs.Batch.{batch};
-ghost use Rattle.rules.specs.Push.{overLimit};
-ghost use Rattle.rules.specs.Steps.{withCounts};
 ghost use Rattle.columns.specs.Pushing.{Pushing};
-ghost use Rattle.trial.specs.Trial.{Sourced, Restored};
-ghost use Rattle.trial.specs.Route.{routeOf, wholeRefusal};
-ghost use Rattle.trial.specs.Trying.{Unmarked, Trying, Marks, Tries, TriesColumn, TriesPart, TriesFull, TriesFinish, Closes, closedAt, Triable, Compactable};
+ghost use Rattle.routes.specs.Sourced.{Sourced};
+ghost use Rattle.alike.specs.Like.{Buffers, TellsAttached, TellsCompacted, TellsColumn};
+ghost use Rattle.alike.specs.Tells.{closedAt, closedTo, TellsPart, TellsFinished, TellsFull, TellsLast, TellsRows, TellsFirst, Tells};
+ghost use Rattle.trial.specs.Trial.{Restored, Answers};
+ghost use Rattle.trial.specs.Trying.{Unmarked, Trying, Marks, Tries, TriesColumn, TriesPart, TriesFull, TriesFinish, Closes, Triable, Compactable};
 use byte_view::Source;
 use columns::Step;
 use counts::ByteSum;
 use counts::RowCount;
 use room::Chosen;
+use routes::Route;
+use routes::Sources;
 use rules::ColumnRecord;
 use rules::Way;
 use state::BatchCoalescer;
-use state::Limit;
 use state::OpenBlock;
-
-// What is decided of each column of a batch.
-pub struct Sources {
-    pub column: [Source; 16],
-}
-
-// Nothing decided yet.
-fn no_sources() -> Sources
-    ensures { λ r. ⌜ length (r .column) ≡ 16 ⌝ }
-{
-    let nothing = Source {
-        ideal: ByteSum(0),
-        way: Way::Copied,
-    };
-    Sources {
-        column: [nothing; 16],
-    }
-}
-
-// set_source of each column.
-pub fn set_sources(
-    s: BatchCoalescer,
-    books: &[u8],
-    records: &[u8],
-    body: &[u8],
-    rows: u32,
-) -> Sources
-    requires { ⌜ Pushing s (now books) (batch rows (now records) (now body)) ⌝ }
-    ensures { λ r. ⌜ Sourced r (world s [] [] (now (books .entry))) (batch rows (now (records .entry)) (now (body .entry))) ⌝ }
-{
-    let mut all = no_sources();
-    let mut c: u32 = 0;
-    while c < s.columns {
-        let at = c as usize;
-        all.column[at] = columns::set_source(s, books, records, body, rows, c);
-        c += 1;
-    }
-    all
-}
 
 // next_buffer on trial, where the list has n numbers: 10, then 11 and 12.
 fn try_buffer(s: BatchCoalescer, books: &mut [u8], c: u32, n: u32, min: ByteSum) -> Step
     requires { ⌜ (Trying s (now books)) × (c < s .columns) × (isViews s c ≡ true)
         × (listLength (world s [] [] (now books)) (s .place) c ≤ n) ⌝ }
-    ensures { λ r. ⌜ TriesColumn s (now (books .entry)) (r .state) (now (books .exit)) ⌝ }
+    ensures { λ q. ⌜ (TriesColumn s (now (books .entry)) (q .state) (now (books .exit)))
+        × (Buffers s (now (books .entry)) c n (min .0) q (now (books .exit))) ⌝ }
 {
     if n < s.lists {
         let column = layout::column_of(s, c);
@@ -110,7 +73,8 @@ fn try_compact(
 ) -> Step
     requires { ⌜ (Trying s (now books)) × (c < s .columns) × (isViews s c ≡ true) × (from + n ≤ 65536)
         × (r .values + (from + n) * 16 ≤ length (now body)) ⌝ }
-    ensures { λ r. ⌜ TriesColumn s (now (books .entry)) (r .state) (now (books .exit)) ⌝ }
+    ensures { λ q. ⌜ (TriesColumn s (now (books .entry)) (q .state) (now (books .exit)))
+        × (TellsCompacted s (now (books .entry)) (now (body .entry)) r (ideal .0) c from n q (now (books .exit))) ⌝ }
 {
     let list = columns::list_closed(s, books, c);
     let block = layout::column_of(s, c).block;
@@ -135,7 +99,7 @@ fn try_compact(
 // attach on trial: 10, the block counted.
 fn try_attach(s: BatchCoalescer, books: &[u8], r: ColumnRecord, c: u32) -> Step
     requires { ⌜ (Trying s (now books)) × (c < s .columns) ⌝ }
-    ensures { λ r. ⌜ TriesColumn s (now (books .entry)) (r .state) (now (books .entry)) ⌝ }
+    ensures { λ q. ⌜ (TriesColumn s (now (books .entry)) (q .state) (now (books .entry))) × (TellsAttached s (now (books .entry)) r c q) ⌝ }
 {
     let n = columns::list_closed(s, books, c);
     if (n as u64) + (r.count as u64) <= (s.lists as u64) {
@@ -165,7 +129,8 @@ fn try_column(
     n: u32,
 ) -> Step
     requires { ⌜ (Trying s (now books)) × (c < s .columns) × (Compactable s (now body) r (source .way) c from n) ⌝ }
-    ensures { λ r. ⌜ TriesColumn s (now (books .entry)) (r .state) (now (books .exit)) ⌝ }
+    ensures { λ q. ⌜ (TriesColumn s (now (books .entry)) (q .state) (now (books .exit)))
+        × (TellsColumn s (now (books .entry)) (now (body .entry)) r source c from n q (now (books .exit))) ⌝ }
 {
     let way = source.way;
     match way {
@@ -193,7 +158,8 @@ fn try_part(
 ) -> Step
     requires { ⌜ (Trying s (now books)) × (Triable s sources (batch (from + n) (now records) (now body)))
         × (s .buffered .0 + n ≤ 65536) ⌝ }
-    ensures { λ r. ⌜ TriesPart s (now (books .entry)) n r (now (books .exit)) ⌝ }
+    ensures { λ q. ⌜ (TriesPart s (now (books .entry)) n q (now (books .exit)))
+        × (TellsPart s (now (books .entry)) sources (now (records .entry)) (now (body .entry)) from n q (now (books .exit))) ⌝ }
 {
     let mut t = s;
     let mut c: u32 = 0;
@@ -233,7 +199,7 @@ fn close_one(s: BatchCoalescer, c: u32) -> BatchCoalescer
 // Every column's block closed.
 fn close_all(s: BatchCoalescer) -> BatchCoalescer
     requires { ⌜ s .columns ≤ 16 ⌝ }
-    ensures { λ r. ⌜ Closes s r (s .columns) ⌝ }
+    ensures { λ r. ⌜ (Closes s r (s .columns)) × (r ≡ closedTo s (s .columns)) ⌝ }
 {
     let mut t = s;
     let mut c: u32 = 0;
@@ -244,24 +210,10 @@ fn close_all(s: BatchCoalescer) -> BatchCoalescer
     t
 }
 
-// The state with the next slot to fill.
-pub fn next_to_fill(s: BatchCoalescer) -> BatchCoalescer
-    requires { ⌜ (Few s) × (s .place ≤ s .queue) × (s .queued < s .queue) ⌝ }
-    ensures { λ r. ⌜ r ≡ withCounts s (nextSlot s (s .place)) (s .queued + 1) 0 ⌝ }
-{
-    let place = layout::next_slot(s, s.place);
-    let none = RowCount(0);
-    let mut t = s;
-    t.place = place;
-    t.queued = s.queued + 1;
-    t.buffered = none;
-    t
-}
-
 // Finishing on trial: 9.
 fn try_finish(s: BatchCoalescer) -> Step
     requires { ⌜ (Few s) × (s .place ≤ s .queue) ⌝ }
-    ensures { λ r. ⌜ TriesFinish s r ⌝ }
+    ensures { λ q. ⌜ (TriesFinish s q) × (TellsFinished s q) ⌝ }
 {
     if s.buffered.0 == 0 {
         Step {
@@ -271,7 +223,7 @@ fn try_finish(s: BatchCoalescer) -> Step
     } else {
         if s.queued < s.queue {
             let t = close_all(s);
-            let u = next_to_fill(t);
+            let u = routes::next_to_fill(t);
             Step {
                 state: u,
                 number: 0,
@@ -297,7 +249,8 @@ fn try_full(
 ) -> Step
     requires { ⌜ (Trying s (now books)) × (Triable s sources (batch (from + n) (now records) (now body)))
         × (s .buffered .0 + n ≤ 65536) ⌝ }
-    ensures { λ r. ⌜ TriesFull s (now (books .entry)) r (now (books .exit)) ⌝ }
+    ensures { λ q. ⌜ (TriesFull s (now (books .entry)) q (now (books .exit)))
+        × (TellsFull s (now (books .entry)) sources (now (records .entry)) (now (body .entry)) from n q (now (books .exit))) ⌝ }
 {
     let step = try_part(s, books, records, body, sources, from, n);
     if step.number == 0 {
@@ -320,7 +273,8 @@ fn try_last(
 ) -> Step
     requires { ⌜ (Trying s (now books)) × (Triable s sources (batch (from + n) (now records) (now body)))
         × (s .buffered .0 + n ≤ 65536) ⌝ }
-    ensures { λ r. ⌜ Tries s (now (books .entry)) (r .state) (now (books .exit)) ⌝ }
+    ensures { λ q. ⌜ (Tries s (now (books .entry)) (q .state) (now (books .exit)))
+        × (TellsLast s (now (books .entry)) sources (now (records .entry)) (now (body .entry)) from n q) ⌝ }
 {
     let step = try_part(s, books, records, body, sources, from, n);
     if step.number == 0 {
@@ -346,7 +300,8 @@ fn try_rows(
 ) -> u32
     requires { ⌜ (Trying s (now books)) × (Triable s sources (batch rows (now records) (now body)))
         × (s .buffered .0 < s .target .0) ⌝ }
-    ensures { λ r. ⌜ Marks (now (books .entry)) (now (books .exit)) (s .numbers) ⌝ }
+    ensures { λ r. ⌜ (Marks (now (books .entry)) (now (books .exit)) (s .numbers))
+        × (TellsRows s (now (books .entry)) sources (batch rows (now (records .entry)) (now (body .entry))) r) ⌝ }
 {
     let mut t = s;
     let mut from: u32 = 0;
@@ -363,70 +318,15 @@ fn try_rows(
     try_last(t, books, records, body, sources, from, rows - from).number
 }
 
-// Queueing whole: 9, then 10 by columns.
-pub fn try_whole(s: BatchCoalescer, books: &[u8], records: &[u8]) -> u32
-    requires { ⌜ (Few s) × (s .place ≤ s .queue) × (length (now books) ≡ booksLength s)
-        × (length (now records) ≡ 32 * s .columns) ⌝ }
-    ensures { λ r. ⌜ r ≡ wholeRefusal (world s [] [] (now (books .entry))) (batch 0 (now (records .entry)) []) ⌝ }
-{
-    if s.queue <= s.queued {
-        return 9;
-    }
-    let mut c: u32 = 0;
-    while c < s.columns {
-        let n = ranges::list_length(s, books, s.place, c);
-        let count = checks::record_at(records, c).count;
-        if (s.lists as u64) < (n as u64) + (count as u64) {
-            return 10;
-        }
-        c += 1;
-    }
-    0
-}
-
-// Step 2: which way a batch of so many rows goes.
-pub enum Route {
-    Coalesce,
-    Whole,
-    FinishFirst,
-}
-
-fn is_over(limit: Limit, rows: u32) -> bool
-    ensures { λ r. ⌜ r ≡ overLimit limit rows ⌝ }
-{
-    match limit {
-        Limit::Rows(most) => most.0 < rows,
-        Limit::Unset => false,
-    }
-}
-
-pub fn route_of(s: BatchCoalescer, rows: u32) -> Route
-    ensures { λ r. ⌜ r ≡ routeOf s rows ⌝ }
-{
-    let limit = s.limit;
-    if is_over(limit, rows) {
-        if s.buffered.0 == 0 {
-            Route::Whole
-        } else {
-            if is_over(limit, s.buffered.0) {
-                Route::FinishFirst
-            } else {
-                Route::Coalesce
-            }
-        }
-    } else {
-        Route::Coalesce
-    }
-}
-
 // Finishing on trial, then queueing whole.
 fn try_first(s: BatchCoalescer, books: &[u8], records: &[u8]) -> u32
     requires { ⌜ (Trying s (now books)) × (length (now records) ≡ 32 * s .columns) ⌝ }
+    ensures { λ r. ⌜ TellsFirst s (now (books .entry)) (now (records .entry)) r ⌝ }
 {
     let step = try_finish(s);
     if step.number == 0 {
         let t = step.state;
-        try_whole(t, books, records)
+        routes::try_whole(t, books, records)
     } else {
         step.number
     }
@@ -443,12 +343,13 @@ fn try_push(
 ) -> u32
     requires { ⌜ (Trying s (now books)) × (Triable s sources (batch rows (now records) (now body)))
         × (s .buffered .0 < s .target .0) ⌝ }
-    ensures { λ r. ⌜ Marks (now (books .entry)) (now (books .exit)) (s .numbers) ⌝ }
+    ensures { λ r. ⌜ (Marks (now (books .entry)) (now (books .exit)) (s .numbers))
+        × (Tells s (now (books .entry)) sources (batch rows (now (records .entry)) (now (body .entry))) r) ⌝ }
 {
-    let route = route_of(s, rows);
+    let route = routes::route_of(s, rows);
     match route {
         Route::Coalesce => try_rows(s, books, records, body, sources, rows),
-        Route::Whole => try_whole(s, books, records),
+        Route::Whole => routes::try_whole(s, books, records),
         Route::FinishFirst => try_first(s, books, records),
     }
 }
@@ -464,10 +365,11 @@ pub fn room_refusal(
 ) -> u32
     requires { ⌜ (Pushing s (now books) (batch rows (now records) (now body))) × (Sourced sources (world s [] [] (now books)) (batch rows (now records) (now body)))
         × (Unmarked (now books)) ⌝ }
-    ensures { λ _. ⌜ Restored (now (books .entry)) (now (books .exit)) (s .numbers) ⌝ }
+    ensures { λ r. ⌜ (Restored (now (books .entry)) (now (books .exit)) (s .numbers))
+        × (Answers s (now (books .entry)) (batch rows (now (records .entry)) (now (body .entry))) r) ⌝ }
 {
     let used = words::get32(books, 0);
-    let number = try_push(s, books, records, body, sources, rows);
+    let lacking = try_push(s, books, records, body, sources, rows);
     room::end_trial(books, used);
-    number
+    lacking
 }

@@ -1,6 +1,7 @@
 -- `coalesce::push_batch` meets its contract.
 use borrow.Author.Needs.{needs}
-use Rattle.coalesce.specs.PushLaws.{ready, judged-go, judged-nothing, judged-refused}
+use Rattle.coalesce.specs.ExactLaws.{push-goes, push-nothing, push-refused}
+use Rattle.coalesce.specs.PushLaws.{ready}
 use Rattle.coalesce.proofs.push_batch.Statement.{statement}
 use Rattle.coalesce.proofs.push_batch.Tie as tie
 
@@ -29,7 +30,7 @@ same-length-3 : tie.Need-same-length-3
 same-length-3 c = search needs
 
 returns : tie.Need-returns
-returns c = search (judged-go, needs)
+returns c = push-goes (c .before .before .before .before .before .before .before .before .before .before .before .before .judge .ensures) (c .before .before .before .before .before .before .before .before .before .before .enum-told .given .1) (c .before .before .before .before .before .before .push-judged .ensures)
 
 same-length-4 : tie.Need-same-length-4
 same-length-4 c = search needs
@@ -41,7 +42,7 @@ same-length-6 : tie.Need-same-length-6
 same-length-6 c = search needs
 
 returns-2 : tie.Need-returns-2
-returns-2 c = search (judged-nothing, needs)
+returns-2 c = push-nothing (c .before .before .judge .ensures) (c .enum-told2 .given .1)
 
 same-length-7 : tie.Need-same-length-7
 same-length-7 c = search needs
@@ -53,7 +54,7 @@ same-length-9 : tie.Need-same-length-9
 same-length-9 c = search needs
 
 returns-3 : tie.Need-returns-3
-returns-3 c = search (judged-refused, needs)
+returns-3 c = push-refused (c .before .before .before .judge .ensures) (search (c .before .verdict .given, needs))
 
 pub push-batch-spec : {M : Type 1} → statement M
 push-batch-spec =

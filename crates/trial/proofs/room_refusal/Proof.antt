@@ -2,6 +2,7 @@
 use native.Mathlib.Omega.{arith}
 use borrow.Author.Needs.{needs}
 use Rattle.trial.specs.MarkLaws.{marks-room, room-restored}
+use Rattle.trial.specs.NumberLaws.{room-answers}
 use Rattle.trial.specs.SourcedLaws.{pushing-trying, pushing-triable, pushing-below}
 use Rattle.trial.specs.TryingLaws.{trying-roomy}
 use Rattle.trial.proofs.room_refusal.Statement.{statement}
@@ -14,13 +15,13 @@ try-push-requires : tie.Need-try-push-requires
 try-push-requires c κs = (pushing-trying (c .before .before .before .before .before .before .pre .0), pushing-triable (c .before .before .before .before .before .before .pre .0) (c .before .before .before .before .before .before .pre .1), pushing-below (c .before .before .before .before .before .before .pre .0))
 
 end-trial-requires : tie.Need-end-trial-requires
-end-trial-requires c κs = marks-room (trying-roomy (pushing-trying (c .before .before .before .before .before .before .before .before .before .before .pre .0))) (c .before .before .before .try-push .ensures)
+end-trial-requires c κs = marks-room (trying-roomy (pushing-trying (c .before .before .before .before .before .before .before .before .before .before .pre .0))) (c .before .before .before .try-push .ensures .0)
 
 same-length : tie.Need-same-length
 same-length c = search needs
 
 returns : tie.Need-returns
-returns c = room-restored (trying-roomy (pushing-trying (c .before .before .before .before .before .before .before .before .before .before .before .before .before .pre .0))) (c .before .before .before .before .before .before .before .before .before .before .before .before .before .pre .2) (c .before .before .before .before .before .before .try-push .ensures) (c .before .before .before .before .before .before .before .before .get32 .ensures) (c .before .before .end-trial .ensures)
+returns c = (room-restored (trying-roomy (pushing-trying (c .before .before .before .before .before .before .before .before .before .before .before .before .before .pre .0))) (c .before .before .before .before .before .before .before .before .before .before .before .before .before .pre .2) (c .before .before .before .before .before .before .try-push .ensures .0) (c .before .before .before .before .before .before .before .before .get32 .ensures) (c .before .before .end-trial .ensures), room-answers (c .before .before .before .before .before .before .before .before .before .before .before .before .before .pre .0) (c .before .before .before .before .before .before .before .before .before .before .before .before .before .pre .1) (c .before .before .before .before .before .before .try-push .ensures .1))
 
 pub room-refusal-spec : {M : Type 1} → statement M
 room-refusal-spec =

@@ -1,5 +1,6 @@
 -- `trial::try_attach` meets its contract.
 use borrow.Author.Needs.{needs}
+use Rattle.alike.specs.TellLaws.{tells-attached, tells-full}
 use Rattle.trial.specs.CloseLaws.{column-shut}
 use Rattle.trial.specs.TryingLaws.{trying-column, trying-list, column-none}
 use Rattle.trial.proofs.try_attach.Statement.{statement}
@@ -27,10 +28,10 @@ with-column-requires : tie.Need-with-column-requires
 with-column-requires c κs = search (trying-column, needs)
 
 returns : tie.Need-returns
-returns c = search (column-shut, needs)
+returns c = (search (column-shut, needs), tells-attached (c .before .before .before .before .before .before .before .before .pre .1) (c .before .before .before .before .before .before .list-closed .ensures .0) (c .before .before .before .if1 .taken) (c .before .before .column-of .ensures) (c .with-column .ensures))
 
 returns-2 : tie.Need-returns-2
-returns-2 c = search (column-none, needs)
+returns-2 c = (column-none (c .before .before .before .before .before .pre .0), tells-full (c .before .before .before .before .before .pre .1) (c .before .before .before .list-closed .ensures .0) (c .if1 .left))
 
 pub try-attach-spec : {M : Type 1} → statement M
 try-attach-spec =

@@ -1,6 +1,7 @@
 -- `trial::try_compact` meets its contract.
 use borrow.Author.Needs.{needs}
-use Rattle.trial.specs.TryingLaws.{trying-column, trying-list, trying-block, closed-most, column-none}
+use Rattle.alike.specs.TellLaws.{tells-new, tells-fits, tells-walked}
+use Rattle.trial.specs.TryingLaws.{trying-column, trying-list, trying-block, closed-most, trying-roomy, column-none}
 use Rattle.trial.proofs.try_compact.Statement.{statement}
 use Rattle.trial.proofs.try_compact.Tie as tie
 
@@ -44,19 +45,19 @@ same-length : tie.Need-same-length
 same-length c = search needs
 
 returns : tie.Need-returns
-returns c = search needs
+returns c = (c .before .before .try-buffer .ensures .0, tells-new (trying-roomy (c .before .before .before .before .before .before .before .before .before .before .before .pre .0)) (c .before .before .before .before .before .before .before .before .before .before .before .pre .1) (c .before .before .before .before .before .before .before .before .before .before .before .pre .2) (c .before .before .before .before .before .before .column-of .ensures) (c .before .before .before .before .before .before .before .list-closed .ensures .0) (c .before .before .before .before .enum-told .given .1) (c .before .before .try-buffer .ensures .1))
 
 same-length-2 : tie.Need-same-length-2
 same-length-2 c = search needs
 
 returns-2 : tie.Need-returns-2
-returns-2 c = search (column-none, needs)
+returns-2 c = (column-none (c .before .before .before .before .before .before .before .before .before .before .before .before .before .pre .0), tells-fits (trying-roomy (c .before .before .before .before .before .before .before .before .before .before .before .before .before .pre .0)) (c .before .before .before .before .before .before .before .before .before .before .before .before .before .pre .1) (c .before .before .before .before .before .before .before .before .before .before .before .before .before .pre .2) (c .before .before .before .before .before .before .before .before .column-of .ensures) (search needs) (c .before .before .before .rest-of .ensures) (c .if1 .taken))
 
 same-length-3 : tie.Need-same-length-3
 same-length-3 c = search needs
 
 returns-3 : tie.Need-returns-3
-returns-3 c = search needs
+returns-3 c = (c .before .before .try-buffer2 .ensures .0, tells-walked (trying-roomy (c .before .before .before .before .before .before .before .before .before .before .before .before .before .before .before .before .before .before .before .before .before .pre .0)) (c .before .before .before .before .before .before .before .before .before .before .before .before .before .before .before .before .before .before .before .before .before .pre .1) (c .before .before .before .before .before .before .before .before .before .before .before .before .before .before .before .before .before .before .before .before .before .pre .2) (c .before .before .before .before .before .before .before .before .before .before .before .before .before .before .before .before .column-of .ensures) (search (c .before .before .before .before .before .before .before .before .before .before .before .before .before .before .block .given, needs)) (c .before .before .before .before .before .before .before .before .before .before .before .rest-of .ensures) (c .before .before .before .before .before .before .before .before .before .before .before .before .before .before .before .before .before .list-closed .ensures .0) (c .before .before .before .before .before .before .before .before .if1 .left) (c .before .before .before .before .before .before .walk .ensures .0) (c .before .before .try-buffer2 .ensures .1))
 
 pub try-compact-spec : {M : Type 1} → statement M
 try-compact-spec =

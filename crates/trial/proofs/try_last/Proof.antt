@@ -1,7 +1,8 @@
 -- `trial::try_last` meets its contract.
 use borrow.Author.Needs.{needs}
+use Rattle.alike.specs.CutLaws.{last-follows, last-ends, last-stops}
 use Rattle.trial.specs.PartLaws.{last-done}
-use Rattle.trial.specs.TryingLaws.{trying-few, trying-place}
+use Rattle.trial.specs.TryingLaws.{trying-bounds, trying-few, trying-place}
 use Rattle.trial.proofs.try_last.Statement.{statement}
 use Rattle.trial.proofs.try_last.Tie as tie
 
@@ -9,25 +10,25 @@ try-part-requires : tie.Need-try-part-requires
 try-part-requires c κs = search needs
 
 try-finish-requires : tie.Need-try-finish-requires
-try-finish-requires c κs = (trying-few (c .before .before .before .before .before .before .before .before .try-part .ensures .tries .trying), trying-place (c .before .before .before .before .before .before .before .before .try-part .ensures .tries .trying))
+try-finish-requires c κs = (trying-few (c .before .before .before .before .before .before .before .before .try-part .ensures .0 .tries .trying), trying-place (c .before .before .before .before .before .before .before .before .try-part .ensures .0 .tries .trying))
 
 same-length : tie.Need-same-length
 same-length c = search needs
 
 returns : tie.Need-returns
-returns c = last-done (c .before .before .before .before .before .before .before .before .before .try-part .ensures) (c .try-finish .ensures)
+returns c = (last-done (c .before .before .before .before .before .before .before .before .before .try-part .ensures .0) (c .try-finish .ensures .0), last-follows (c .before .before .before .before .before .before .before .before .before .try-part .ensures .1) (c .before .before .before .before .before .if1 .taken) (c .before .before .before .before .before .before .before .before .before .try-part .ensures .0 .buffered (c .before .before .before .before .before .if1 .taken)) (c .before .before .before .before .before .before .before .before .before .before .before .before .before .before .pre .2) (c .before .before .before .before .before .before .before .before .before .try-part .ensures .0 .tries .set-up) (c .before .if2 .taken) (trying-bounds (c .before .before .before .before .before .before .before .before .before .before .before .before .before .before .pre .0) .target-some) (c .try-finish .ensures .1))
 
 same-length-2 : tie.Need-same-length-2
 same-length-2 c = search needs
 
 returns-2 : tie.Need-returns-2
-returns-2 c = c .before .before .before .before .before .before .before .before .try-part .ensures .tries
+returns-2 c = (c .before .before .before .before .before .before .before .before .try-part .ensures .0 .tries, last-ends (c .before .before .before .before .before .before .before .before .try-part .ensures .1) (c .before .before .before .before .if1 .taken) (c .before .before .before .before .before .before .before .before .try-part .ensures .0 .buffered (c .before .before .before .before .if1 .taken)) (c .before .before .before .before .before .before .before .before .before .before .before .before .before .pre .2) (c .before .before .before .before .before .before .before .before .try-part .ensures .0 .tries .set-up) (c .if2 .left))
 
 same-length-3 : tie.Need-same-length-3
 same-length-3 c = search needs
 
 returns-3 : tie.Need-returns-3
-returns-3 c = c .before .before .before .before .try-part .ensures .tries
+returns-3 c = (c .before .before .before .before .try-part .ensures .0 .tries, last-stops (c .before .before .before .before .try-part .ensures .1) (c .if1 .left))
 
 pub try-last-spec : {M : Type 1} → statement M
 try-last-spec =

@@ -4,6 +4,8 @@ use mathlib.Core.Path.{_≡_, refl}
 use native.Mathlib.Omega.{arith}
 use lib.ListN.{length}
 use borrow.Author.Needs.{needs}
+use Rattle.alike.specs.Tells.{TellsTo}
+use Rattle.alike.specs.PartLaws.{to-none, to-more, part-stops, part-tells}
 use Rattle.trial.specs.PartLaws.{record-asks, column-in, column-asks, part-refused, part-done}
 use Rattle.trial.specs.TryingLaws.{trying-bounds, column-none, column-trans, tries-length}
 use Rattle.trial.specs.Trying.{TriesColumn}
@@ -11,13 +13,13 @@ use Rattle.trial.proofs.try_part.Statement.{statement}
 use Rattle.trial.proofs.try_part.Tie as tie
 
 abbrev Inv-loop : tie.InvT-loop
-Inv-loop s books₀ records body from n sources t₀ c₀ books t c = (c ≤ s .columns) × (s .columns ≤ 16) × (length books ≡ length books₀) × (TriesColumn s books₀ t books)
+Inv-loop s books₀ records body from n sources t₀ c₀ books t c = (c ≤ s .columns) × (s .columns ≤ 16) × (length books ≡ length books₀) × (TriesColumn s books₀ t books) × (TellsTo s books₀ sources records body from n c t books)
 
 abbrev μ-loop : tie.MeasureT-loop
 μ-loop s books₀ records body from n sources t₀ c₀ books t c = s .columns - c
 
 loop-holds : tie.Need-loop-holds Inv-loop μ-loop
-loop-holds c = (omega arith, trying-bounds (c .before .before .before .pre .0) .columns, refl, column-none (c .before .before .before .pre .0))
+loop-holds c = (omega arith, trying-bounds (c .before .before .before .pre .0) .columns, refl, column-none (c .before .before .before .pre .0), to-none)
 
 cast-at : tie.Need-cast-at Inv-loop μ-loop
 cast-at c = search needs
@@ -42,7 +44,7 @@ same-length : tie.Need-same-length Inv-loop μ-loop
 same-length c = search needs
 
 returns : tie.Need-returns Inv-loop μ-loop
-returns c = part-refused (c .before .before .before .before .before .before .before .before .before .before .before .before .before .before .args .n) (c .before .before .before .before .before .before .before .before .before .before .loop .inv .3) (c .before .before .before .before .try-column .ensures) (c .if2 .left)
+returns c = (part-refused (c .before .before .before .before .before .before .before .before .before .before .before .before .before .before .args .n) (c .before .before .before .before .before .before .before .before .before .before .loop .inv .3) (c .before .before .before .before .try-column .ensures .0) (c .if2 .left), part-stops (c .before .before .before .before .before .before .before .before .before .before .loop .inv .4) (c .before .before .before .before .before .before .before .before .before .before .loop .inv .3 .tries .set-up) (c .before .before .before .before .before .before .before .before .if1 .taken) (c .before .before .before .before .before .before .record-at .ensures) (c .before .before .before .before .try-column .ensures .1) (c .if2 .left))
 
 add-c : tie.Need-add-c Inv-loop μ-loop
 add-c c = search needs
@@ -51,7 +53,7 @@ loop-less : tie.Need-loop-less Inv-loop μ-loop
 loop-less c = search needs
 
 loop-again : tie.Need-loop-again Inv-loop μ-loop
-loop-again c = (omega arith, c .before .before .before .before .before .before .before .before .before .before .before .loop .inv .1, tries-length (column-trans (c .before .before .before .before .before .before .before .before .before .before .before .loop .inv .3) (c .before .before .before .before .before .try-column .ensures) .tries), column-trans (c .before .before .before .before .before .before .before .before .before .before .before .loop .inv .3) (c .before .before .before .before .before .try-column .ensures))
+loop-again c = (omega arith, c .before .before .before .before .before .before .before .before .before .before .before .loop .inv .1, tries-length (column-trans (c .before .before .before .before .before .before .before .before .before .before .before .loop .inv .3) (c .before .before .before .before .before .try-column .ensures .0) .tries), column-trans (c .before .before .before .before .before .before .before .before .before .before .before .loop .inv .3) (c .before .before .before .before .before .try-column .ensures .0), to-more (c .before .before .before .before .before .before .before .before .before .before .before .loop .inv .4) (c .before .before .before .before .before .before .before .before .before .before .before .loop .inv .3 .tries .set-up) (c .before .before .before .before .before .before .before .before .before .if1 .taken) (c .before .before .before .before .before .before .before .record-at .ensures) (c .before .before .before .before .before .try-column .ensures .1) (c .before .if2 .taken))
 
 add-t23 : tie.Need-add-t23 Inv-loop μ-loop
 add-t23 c = omega (arith, c .before .before .before .before .before .before .before .pre .2)
@@ -60,7 +62,7 @@ same-length-2 : tie.Need-same-length-2 Inv-loop μ-loop
 same-length-2 c = search needs
 
 returns-2 : tie.Need-returns-2 Inv-loop μ-loop
-returns-2 c = part-done (c .before .before .before .before .before .before .before .args .n) (c .before .before .before .loop .inv .3)
+returns-2 c = (part-done (c .before .before .before .before .before .before .before .args .n) (c .before .before .before .loop .inv .3), part-tells (c .before .before .before .loop .inv .4) (omega (arith, c .before .before .before .loop .inv .0, c .before .if1 .left)) (c .before .before .before .loop .inv .3 .buffered))
 
 pub try-part-spec : {M : Type 1} → statement M
 try-part-spec =

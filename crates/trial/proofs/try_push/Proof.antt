@@ -1,7 +1,9 @@
 -- `trial::try_push` meets its contract.
 use borrow.Author.Needs.{needs}
+use native.Mathlib.Omega.{arith}
+use Rattle.alike.specs.StandLaws.{whole-tells, push-coalesces, push-whole, push-first}
 use Rattle.trial.specs.PartLaws.{whole-asks}
-use Rattle.trial.specs.TryingLaws.{tries-none}
+use Rattle.trial.specs.TryingLaws.{trying-bounds, tries-none}
 use Rattle.trial.proofs.try_push.Statement.{statement}
 use Rattle.trial.proofs.try_push.Tie as tie
 
@@ -30,19 +32,19 @@ same-length : tie.Need-same-length
 same-length c = search needs
 
 returns : tie.Need-returns
-returns c = search needs
+returns c = (c .before .before .try-rows .ensures .0, push-coalesces (c .before .before .before .before .before .before .route-of .ensures) (c .before .before .before .before .enum-told .given .1) (c .before .before .try-rows .ensures .1))
 
 same-length-2 : tie.Need-same-length-2
 same-length-2 c = search needs
 
 returns-2 : tie.Need-returns-2
-returns-2 c = tries-none (c .before .before .before .before .before .before .before .before .pre .0) .marks
+returns-2 c = (tries-none (c .before .before .before .before .before .before .before .before .pre .0) .marks, push-whole (c .before .before .before .before .route-of .ensures) (c .before .before .enum-told2 .given .1) (whole-tells _ _ _ (c .try-whole .ensures)))
 
 same-length-3 : tie.Need-same-length-3
 same-length-3 c = search needs
 
 returns-3 : tie.Need-returns-3
-returns-3 c = tries-none (c .before .before .before .before .before .before .before .before .pre .0) .marks
+returns-3 c = (tries-none (c .before .before .before .before .before .before .before .before .pre .0) .marks, push-first (c .before .before .before .before .route-of .ensures) (omega (arith, c .before .before .before .before .before .before .before .before .pre .2, trying-bounds (c .before .before .before .before .before .before .before .before .pre .0) .target, trying-bounds (c .before .before .before .before .before .before .before .before .pre .0) .rows)) (c .before .before .enum-told3 .given .1) (c .try-first .ensures))
 
 pub try-push-spec : {M : Type 1} → statement M
 try-push-spec =

@@ -4,6 +4,9 @@ use mathlib.Core.Path.{_≡_, refl}
 use native.Mathlib.Omega.{arith}
 use lib.ListN.{length}
 use borrow.Author.Needs.{needs}
+use Rattle.rules.specs.Batch.{batch}
+use Rattle.alike.specs.Tells.{TellsCut}
+use Rattle.alike.specs.CutLaws.{cut-first, cut-more, cut-stops, cut-last}
 use Rattle.trial.specs.PartLaws.{triable-full, triable-last, turn-done, turn-below, turn-marks, turn-refused}
 use Rattle.trial.specs.TryingLaws.{trying-bounds, tries-none, tries-length}
 use Rattle.trial.specs.Trying.{Tries}
@@ -11,13 +14,13 @@ use Rattle.trial.proofs.try_rows.Statement.{statement}
 use Rattle.trial.proofs.try_rows.Tie as tie
 
 abbrev Inv-loop : tie.InvT-loop
-Inv-loop books₀ records body sources rows t₀ from₀ books t from = (from ≤ rows) × (t .buffered .0 < t .target .0) × (length books ≡ length books₀) × (Tries t₀ books₀ t books)
+Inv-loop books₀ records body sources rows t₀ from₀ books t from = (from ≤ rows) × (t .buffered .0 < t .target .0) × (length books ≡ length books₀) × (Tries t₀ books₀ t books) × (TellsCut t₀ books₀ sources (batch rows records body) from t books)
 
 abbrev μ-loop : tie.MeasureT-loop
 μ-loop books₀ records body sources rows t₀ from₀ books t from = rows - from
 
 loop-holds : tie.Need-loop-holds Inv-loop μ-loop
-loop-holds c = (omega arith, c .before .before .before .pre .2, refl, tries-none (c .before .before .before .pre .0))
+loop-holds c = (omega arith, c .before .before .before .pre .2, refl, tries-none (c .before .before .before .pre .0), cut-first _ _ _ _)
 
 sub-if1 : tie.Need-sub-if1 Inv-loop μ-loop
 sub-if1 c = omega (arith, c .before .loop .inv .1)
@@ -39,7 +42,7 @@ same-length : tie.Need-same-length Inv-loop μ-loop
 same-length c = search needs
 
 returns : tie.Need-returns Inv-loop μ-loop
-returns c = turn-refused (c .before .before .before .before .before .before .before .before .before .loop .inv .3) (c .before .before .before .before .try-full .ensures)
+returns c = (turn-refused (c .before .before .before .before .before .before .before .before .before .loop .inv .3) (c .before .before .before .before .try-full .ensures .0), cut-stops (c .before .before .before .before .before .before .before .before .before .loop .inv .4) (c .before .before .before .before .before .before .before .if1 .taken) (c .before .before .before .before .before .before .before .before .before .loop .inv .1) (c .before .before .before .before .try-full .ensures .1) (c .if2 .left))
 
 add-from : tie.Need-add-from Inv-loop μ-loop
 add-from c = omega (arith, c .before .before .before .before .before .before .before .before .if1 .taken, c .before .before .before .before .before .before .before .before .before .before .loop .inv .0, c .before .before .before .before .before .before .before .before .before .before .before .before .before .before .pre .1 .rows-fit)
@@ -48,7 +51,7 @@ loop-less : tie.Need-loop-less Inv-loop μ-loop
 loop-less c = omega (arith, c .before .before .before .before .before .before .before .before .if1 .taken, c .before .before .before .before .before .before .before .before .before .before .loop .inv .1)
 
 loop-again : tie.Need-loop-again Inv-loop μ-loop
-loop-again c = (omega (arith, c .before .before .before .before .before .before .before .before .if1 .taken, c .before .before .before .before .before .before .before .before .before .before .loop .inv .0), turn-below (c .before .before .before .before .before .try-full .ensures) (c .before .if2 .taken), tries-length (turn-done (c .before .before .before .before .before .before .before .before .before .before .loop .inv .3) (c .before .before .before .before .before .try-full .ensures)), turn-done (c .before .before .before .before .before .before .before .before .before .before .loop .inv .3) (c .before .before .before .before .before .try-full .ensures))
+loop-again c = (omega (arith, c .before .before .before .before .before .before .before .before .if1 .taken, c .before .before .before .before .before .before .before .before .before .before .loop .inv .0), turn-below (c .before .before .before .before .before .try-full .ensures .0) (c .before .if2 .taken), tries-length (turn-done (c .before .before .before .before .before .before .before .before .before .before .loop .inv .3) (c .before .before .before .before .before .try-full .ensures .0)), turn-done (c .before .before .before .before .before .before .before .before .before .before .loop .inv .3) (c .before .before .before .before .before .try-full .ensures .0), cut-more (c .before .before .before .before .before .before .before .before .before .before .loop .inv .4) (c .before .before .before .before .before .before .before .before .if1 .taken) (c .before .before .before .before .before .before .before .before .before .before .loop .inv .1) (c .before .before .before .before .before .try-full .ensures .1) (c .before .before .before .before .before .try-full .ensures .0 .tries .set-up) (c .before .if2 .taken))
 
 sub-try-last : tie.Need-sub-try-last Inv-loop μ-loop
 sub-try-last c = omega (arith, c .before .before .before .loop .inv .0)
@@ -64,7 +67,7 @@ same-length-2 : tie.Need-same-length-2 Inv-loop μ-loop
 same-length-2 c = search needs
 
 returns-2 : tie.Need-returns-2 Inv-loop μ-loop
-returns-2 c = turn-marks (c .before .before .before .before .before .before .loop .inv .3) (c .before .before .try-last .ensures)
+returns-2 c = (turn-marks (c .before .before .before .before .before .before .loop .inv .3) (c .before .before .try-last .ensures .0), cut-last (c .before .before .before .before .before .before .loop .inv .4) (c .before .before .before .before .before .before .loop .inv .0) (c .before .before .before .before .if1 .left) (c .before .before .try-last .ensures .1))
 
 pub try-rows-spec : {M : Type 1} → statement M
 try-rows-spec =

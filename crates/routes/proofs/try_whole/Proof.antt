@@ -1,11 +1,11 @@
--- `trial::try_whole` meets its contract.
+-- `routes::try_whole` meets its contract.
 use Prim.Native.Nat.{_≤_, _-_, _<_}
 use native.Mathlib.Omega.{arith}
 use borrow.Author.Needs.{needs}
 use Rattle.search.specs.Every.{All}
-use Rattle.trial.specs.RouteLaws.{listFits, whole-nine, whole-first, whole-more, whole-ten, whole-none}
-use Rattle.trial.proofs.try_whole.Statement.{statement}
-use Rattle.trial.proofs.try_whole.Tie as tie
+use Rattle.routes.specs.RouteLaws.{listFits, whole-nine, whole-first, whole-more, whole-ten, whole-none}
+use Rattle.routes.proofs.try_whole.Statement.{statement}
+use Rattle.routes.proofs.try_whole.Tie as tie
 
 abbrev Inv-loop : tie.InvT-loop
 Inv-loop s books records c₀ c = (c ≤ s .columns) × (s .queued < s .queue) × (All (listFits s books records) c)

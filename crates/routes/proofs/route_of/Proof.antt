@@ -1,8 +1,8 @@
--- `trial::route_of` meets its contract.
+-- `routes::route_of` meets its contract.
 use borrow.Author.Needs.{needs}
-use Rattle.trial.specs.RouteLaws.{route-small, route-whole, route-first, route-on}
-use Rattle.trial.proofs.route_of.Statement.{statement}
-use Rattle.trial.proofs.route_of.Tie as tie
+use Rattle.routes.specs.RouteLaws.{route-small, route-whole, route-first, route-on}
+use Rattle.routes.proofs.route_of.Statement.{statement}
+use Rattle.routes.proofs.route_of.Tie as tie
 
 is-over-requires : tie.Need-is-over-requires
 is-over-requires c κs = search needs

@@ -9,7 +9,7 @@ use Rattle.state.specs.Layout.{listLength}
 use Rattle.rules.specs.Batch.{Batch, recordOf}
 use Rattle.rules.specs.Views.{filling}
 use Rattle.rules.specs.Push.{overLimit}
-use Rattle.trial.specs.declared.Route.{Route}
+use Rattle.routes.specs.declared.Route.{Route}
 
 -- step 2: "Limit set and rows > limit: with 0 buffered, queue the batch whole; with buffered > limit, finish the buffered rows, then queue
 -- it whole; else go on."

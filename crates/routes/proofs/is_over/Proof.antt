@@ -1,8 +1,8 @@
--- `trial::is_over` meets its contract.
+-- `routes::is_over` meets its contract.
 use borrow.Author.Needs.{needs}
-use Rattle.trial.specs.RouteLaws.{over-some, over-none}
-use Rattle.trial.proofs.is_over.Statement.{statement}
-use Rattle.trial.proofs.is_over.Tie as tie
+use Rattle.routes.specs.RouteLaws.{over-some, over-none}
+use Rattle.routes.proofs.is_over.Statement.{statement}
+use Rattle.routes.proofs.is_over.Tie as tie
 
 enum-known-limit : tie.Need-enum-known-limit
 enum-known-limit c = search needs

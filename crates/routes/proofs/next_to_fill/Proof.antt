@@ -1,8 +1,8 @@
--- `trial::next_to_fill` meets its contract.
+-- `routes::next_to_fill` meets its contract.
 use borrow.Author.Needs.{needs}
-use Rattle.trial.specs.RouteLaws.{next-is}
-use Rattle.trial.proofs.next_to_fill.Statement.{statement}
-use Rattle.trial.proofs.next_to_fill.Tie as tie
+use Rattle.routes.specs.RouteLaws.{next-is}
+use Rattle.routes.proofs.next_to_fill.Statement.{statement}
+use Rattle.routes.proofs.next_to_fill.Tie as tie
 
 next-slot-requires : tie.Need-next-slot-requires
 next-slot-requires c κs = search needs

@@ -1,13 +1,13 @@
--- `trial::set_sources` meets its contract.
+-- `routes::set_sources` meets its contract.
 use Prim.Native.Nat.{_≤_, _-_}
 use mathlib.Core.List.{[]}
 use native.Mathlib.Omega.{arith}
 use borrow.Author.Needs.{needs}
 use Rattle.rules.specs.Batch.{batch}
 use Rattle.state.specs.World.{world}
-use Rattle.trial.specs.SourcedLaws.{SourcedTo, sources-none, sources-more, sources-all, source-asks, pushing-columns}
-use Rattle.trial.proofs.set_sources.Statement.{statement}
-use Rattle.trial.proofs.set_sources.Tie as tie
+use Rattle.routes.specs.SourcedLaws.{SourcedTo, sources-none, sources-more, sources-all, source-asks, pushing-columns}
+use Rattle.routes.proofs.set_sources.Statement.{statement}
+use Rattle.routes.proofs.set_sources.Tie as tie
 
 abbrev Inv-loop : tie.InvT-loop
 Inv-loop s books records body rows all₀ c₀ all c = (c ≤ s .columns) × (s .columns ≤ 16) × (SourcedTo (all .column) (world s [] [] books) (batch rows records body) c)

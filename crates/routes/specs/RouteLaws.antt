@@ -18,8 +18,8 @@ use Rattle.rules.specs.Steps.{ok, refuse, bind, queueing, withCounts}
 use Rattle.rules.specs.Views.{filling}
 use Rattle.rules.specs.Push.{finished, columnsWhole, queuedWhole, coalesced, overLimit, stepped}
 use Rattle.rules.specs.StepLaws.{stepped-small, stepped-whole, stepped-finishes, stepped-on}
-use Rattle.trial.specs.declared.Route.{Route}
-use Rattle.trial.specs.Route.{routeOf, wholeRefusal}
+use Rattle.routes.specs.declared.Route.{Route}
+use Rattle.routes.specs.Route.{routeOf, wholeRefusal}
 
 -- ---- next_to_fill
 

@@ -1,0 +1,130 @@
+// What is decided of a push before it is tried or done: of each column, and which way the batch goes; and queueing whole, which is tried as it is done.
+// From arrow-select 60.0.0, src/coalesce.rs: the first lines of `push_batch`.
+ghost use mathlib.Core.Path.{_≡_};
+ghost use Prim.Native.Nat.{_+_, _*_, _≤_, _<_};
+ghost use mathlib.Core.List.{[]};
+ghost use lib.ListN.{length};
+ghost use Rattle.layout.specs.Few.{Few};
+ghost use Rattle.state.specs.World.{world};
+ghost use Rattle.state.specs.Layout.{booksLength, nextSlot};
+ghost use Rattle.rules.specs.Batch.{batch};
+ghost use Rattle.rules.specs.Push.{overLimit};
+ghost use Rattle.rules.specs.Steps.{withCounts};
+ghost use Rattle.columns.specs.Pushing.{Pushing};
+ghost use Rattle.routes.specs.Sourced.{Sourced};
+ghost use Rattle.routes.specs.Route.{routeOf, wholeRefusal};
+use byte_view::Source;
+use counts::ByteSum;
+use counts::RowCount;
+use rules::Way;
+use state::BatchCoalescer;
+use state::Limit;
+
+// What is decided of each column of a batch.
+pub struct Sources {
+    pub column: [Source; 16],
+}
+
+// Nothing decided yet.
+fn no_sources() -> Sources
+    ensures { λ r. ⌜ length (r .column) ≡ 16 ⌝ }
+{
+    let nothing = Source {
+        ideal: ByteSum(0),
+        way: Way::Copied,
+    };
+    Sources {
+        column: [nothing; 16],
+    }
+}
+
+// set_source of each column.
+pub fn set_sources(
+    s: BatchCoalescer,
+    books: &[u8],
+    records: &[u8],
+    body: &[u8],
+    rows: u32,
+) -> Sources
+    requires { ⌜ Pushing s (now books) (batch rows (now records) (now body)) ⌝ }
+    ensures { λ r. ⌜ Sourced r (world s [] [] (now (books .entry))) (batch rows (now (records .entry)) (now (body .entry))) ⌝ }
+{
+    let mut all = no_sources();
+    let mut c: u32 = 0;
+    while c < s.columns {
+        let at = c as usize;
+        all.column[at] = columns::set_source(s, books, records, body, rows, c);
+        c += 1;
+    }
+    all
+}
+
+// Queueing whole: 9, then 10 by columns.
+pub fn try_whole(s: BatchCoalescer, books: &[u8], records: &[u8]) -> u32
+    requires { ⌜ (Few s) × (s .place ≤ s .queue) × (length (now books) ≡ booksLength s)
+        × (length (now records) ≡ 32 * s .columns) ⌝ }
+    ensures { λ r. ⌜ r ≡ wholeRefusal (world s [] [] (now (books .entry))) (batch 0 (now (records .entry)) []) ⌝ }
+{
+    if s.queue <= s.queued {
+        return 9;
+    }
+    let mut c: u32 = 0;
+    while c < s.columns {
+        let n = ranges::list_length(s, books, s.place, c);
+        let count = checks::record_at(records, c).count;
+        if (s.lists as u64) < (n as u64) + (count as u64) {
+            return 10;
+        }
+        c += 1;
+    }
+    0
+}
+
+// Step 2: which way a batch of so many rows goes.
+pub enum Route {
+    Coalesce,
+    Whole,
+    FinishFirst,
+}
+
+fn is_over(limit: Limit, rows: u32) -> bool
+    ensures { λ r. ⌜ r ≡ overLimit limit rows ⌝ }
+{
+    match limit {
+        Limit::Rows(most) => most.0 < rows,
+        Limit::Unset => false,
+    }
+}
+
+pub fn route_of(s: BatchCoalescer, rows: u32) -> Route
+    ensures { λ r. ⌜ r ≡ routeOf s rows ⌝ }
+{
+    let limit = s.limit;
+    if is_over(limit, rows) {
+        if s.buffered.0 == 0 {
+            Route::Whole
+        } else {
+            if is_over(limit, s.buffered.0) {
+                Route::FinishFirst
+            } else {
+                Route::Coalesce
+            }
+        }
+    } else {
+        Route::Coalesce
+    }
+}
+
+// The state with the next slot to fill.
+pub fn next_to_fill(s: BatchCoalescer) -> BatchCoalescer
+    requires { ⌜ (Few s) × (s .place ≤ s .queue) × (s .queued < s .queue) ⌝ }
+    ensures { λ r. ⌜ r ≡ withCounts s (nextSlot s (s .place)) (s .queued + 1) 0 ⌝ }
+{
+    let place = layout::next_slot(s, s.place);
+    let none = RowCount(0);
+    let mut t = s;
+    t.place = place;
+    t.queued = s.queued + 1;
+    t.buffered = none;
+    t
+}
