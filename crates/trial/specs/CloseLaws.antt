@@ -5,13 +5,15 @@ use mathlib.Core.Bool.{Bool, true, false, true≢false}
 use mathlib.Core.List.{List}
 use native.Mathlib.Omega.{arith}
 use native.Mathlib.Decide.{decLt}
+use lib.ListN.{getD}
 use Rattle.search.specs.Cases.{by-cond}
+use Rattle.kinds.specs.Kind.{isView}
 use Rattle.words.specs.FrameLaws.{framed-refl}
 use Rattle.counts.specs.declared.BufferNumber.{BufferNumber}
 use Rattle.state.specs.declared.BatchCoalescer.{BatchCoalescer}
 use Rattle.state.specs.declared.Column.{Column}
 use Rattle.state.specs.declared.OpenBlock.{OpenBlock}
-use Rattle.state.specs.World.{World, world, columnOf}
+use Rattle.state.specs.World.{World, world, columnOf, noColumn}
 use Rattle.state.specs.Layout.{isViews, nextSlot, listLength}
 use Rattle.rules.specs.Stays.{SameSetUp, same-refl, same-trans, same-counts, same-column, Kept}
 use Rattle.rules.specs.SameLaws.{same-views}
@@ -60,6 +62,11 @@ close-views s c p y e q = rw (← p, y, q, e)
 pub close-other : (s : BatchCoalescer) (c : ℕ) {v : Bool} → v ≡ isViews s c → v ≡ false → s ≡ closedAt s c
 unfolding closedAt
 close-other s c p y = rw (← p, y)
+
+-- a column that is not of views: what the loop looks at is the kind that set-up fixed
+pub close-plain : {s t : BatchCoalescer} (c : ℕ) {v : Bool} → Closes s t c → v ≡ isView (getD (s .column) c noColumn .kind) → v ≡ false → t ≡ closedAt t c
+unfolding isViews columnOf
+close-plain {s} {t} c a p y = close-other t c (p ∙ ap isView (sym (a .set-up .kind c))) y
 
 pub closes-none : (s : BatchCoalescer) → Closes s s 0
 closes-none s =

@@ -166,14 +166,21 @@ fn try_part(
     while c < s.columns {
         let at = c as usize;
         let source = sources.column[at];
-        let r = checks::record_at(records, c);
-        let step = try_column(t, books, body, r, source, c, from, n);
-        if step.number == 0 {
-            t = step.state;
-        } else {
-            return step;
-        }
+        let here = c;
+        let r = checks::record_at(records, here);
         c += 1;
+        let way = source.way;
+        match way {
+            Way::Copied => {}
+            _ => {
+                let step = try_column(t, books, body, r, source, here, from, n);
+                if step.number == 0 {
+                    t = step.state;
+                } else {
+                    return step;
+                }
+            }
+        }
     }
     let buffered = RowCount(s.buffered.0 + n);
     t.buffered = buffered;
@@ -204,8 +211,13 @@ fn close_all(s: BatchCoalescer) -> BatchCoalescer
     let mut t = s;
     let mut c: u32 = 0;
     while c < s.columns {
-        t = close_one(t, c);
+        let at = c as usize;
+        let column = s.column[at];
+        let here = c;
         c += 1;
+        if kinds::is_view(column.kind) {
+            t = close_one(t, here);
+        }
     }
     t
 }

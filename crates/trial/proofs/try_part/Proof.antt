@@ -5,6 +5,7 @@ use native.Mathlib.Omega.{arith}
 use lib.ListN.{length}
 use borrow.Author.Needs.{needs}
 use Rattle.alike.specs.Tells.{TellsTo}
+use Rattle.alike.specs.TellLaws.{tells-copied}
 use Rattle.alike.specs.PartLaws.{to-none, to-more, part-stops, part-tells}
 use Rattle.trial.specs.PartLaws.{record-asks, column-in, column-asks, part-refused, part-done}
 use Rattle.trial.specs.TryingLaws.{trying-bounds, column-none, column-trans, tries-length}
@@ -33,30 +34,39 @@ element-copy-out-source c = search needs
 record-at-requires : tie.Need-record-at-requires Inv-loop μ-loop
 record-at-requires c κs = record-asks (c .before .before .before .before .before .before .before .args .from) (c .before .before .before .before .before .before .before .args .n) (c .before .before .before .before .before .before .before .pre .1) (c .before .before .before .loop .inv .3) (c .before .if1 .taken)
 
-try-column-requires : tie.Need-try-column-requires Inv-loop μ-loop
-try-column-requires c κs = (
-  c .before .before .before .before .before .loop .inv .3 .tries .trying,
-  column-in (c .before .before .before .before .before .before .before .before .before .args .from) (c .before .before .before .before .before .before .before .before .before .args .n) (c .before .before .before .before .before .before .before .before .before .pre .1) (c .before .before .before .before .before .loop .inv .3) (c .before .before .before .if1 .taken),
-  column-asks (c .before .before .before .before .before .before .before .before .before .args .from) (c .before .before .before .before .before .before .before .before .before .args .n) (c .before .before .before .before .before .before .before .before .before .pre .1) (c .before .before .before .before .before .loop .inv .3) (c .before .before .before .if1 .taken) (c .before .record-at .ensures) refl,
-)
-
-same-length : tie.Need-same-length Inv-loop μ-loop
-same-length c = search needs
-
-returns : tie.Need-returns Inv-loop μ-loop
-returns c = (part-refused (c .before .before .before .before .before .before .before .before .before .before .before .before .before .before .args .n) (c .before .before .before .before .before .before .before .before .before .before .loop .inv .3) (c .before .before .before .before .try-column .ensures .0) (c .if2 .left), part-stops (c .before .before .before .before .before .before .before .before .before .before .loop .inv .4) (c .before .before .before .before .before .before .before .before .before .before .loop .inv .3 .tries .set-up) (c .before .before .before .before .before .before .before .before .if1 .taken) (c .before .before .before .before .before .before .record-at .ensures) (c .before .before .before .before .try-column .ensures .1) (c .if2 .left))
-
 add-c : tie.Need-add-c Inv-loop μ-loop
 add-c c = search needs
+
+enum-told : tie.Need-enum-told Inv-loop μ-loop
+enum-told c = search needs
 
 loop-less : tie.Need-loop-less Inv-loop μ-loop
 loop-less c = search needs
 
 loop-again : tie.Need-loop-again Inv-loop μ-loop
-loop-again c = (omega arith, c .before .before .before .before .before .before .before .before .before .before .before .loop .inv .1, tries-length (column-trans (c .before .before .before .before .before .before .before .before .before .before .before .loop .inv .3) (c .before .before .before .before .before .try-column .ensures .0) .tries), column-trans (c .before .before .before .before .before .before .before .before .before .before .before .loop .inv .3) (c .before .before .before .before .before .try-column .ensures .0), to-more (c .before .before .before .before .before .before .before .before .before .before .before .loop .inv .4) (c .before .before .before .before .before .before .before .before .before .before .before .loop .inv .3 .tries .set-up) (c .before .before .before .before .before .before .before .before .before .if1 .taken) (c .before .before .before .before .before .before .before .record-at .ensures) (c .before .before .before .before .before .try-column .ensures .1) (c .before .if2 .taken))
+loop-again c = (omega (arith, c .before .before .before .before .if1 .taken), c .before .before .before .before .before .before .loop .inv .1, c .before .before .before .before .before .before .loop .inv .2, c .before .before .before .before .before .before .loop .inv .3, to-more (c .before .before .before .before .before .before .loop .inv .4) (c .before .before .before .before .before .before .loop .inv .3 .tries .set-up) (c .before .before .before .before .if1 .taken) (c .before .before .record-at .ensures) (tells-copied (c .enum-told .given .1)) refl)
 
-add-t23 : tie.Need-add-t23 Inv-loop μ-loop
-add-t23 c = omega (arith, c .before .before .before .before .before .before .before .pre .2)
+try-column-requires : tie.Need-try-column-requires Inv-loop μ-loop
+try-column-requires c κs = (
+  c .before .before .before .before .before .before .loop .inv .3 .tries .trying,
+  column-in (c .before .before .before .before .before .before .before .before .before .before .args .from) (c .before .before .before .before .before .before .before .before .before .before .args .n) (c .before .before .before .before .before .before .before .before .before .before .pre .1) (c .before .before .before .before .before .before .loop .inv .3) (c .before .before .before .before .if1 .taken),
+  column-asks (c .before .before .before .before .before .before .before .before .before .before .args .from) (c .before .before .before .before .before .before .before .before .before .before .args .n) (c .before .before .before .before .before .before .before .before .before .before .pre .1) (c .before .before .before .before .before .before .loop .inv .3) (c .before .before .before .before .if1 .taken) (c .before .before .record-at .ensures) refl,
+)
+
+loop-less-2 : tie.Need-loop-less-2 Inv-loop μ-loop
+loop-less-2 c = search needs
+
+loop-again-2 : tie.Need-loop-again-2 Inv-loop μ-loop
+loop-again-2 c = (omega (arith, c .before .before .before .before .before .before .before .before .before .before .if1 .taken), c .before .before .before .before .before .before .before .before .before .before .before .before .loop .inv .1, tries-length (column-trans (c .before .before .before .before .before .before .before .before .before .before .before .before .loop .inv .3) (c .before .before .before .before .before .try-column .ensures .0) .tries), column-trans (c .before .before .before .before .before .before .before .before .before .before .before .before .loop .inv .3) (c .before .before .before .before .before .try-column .ensures .0), to-more (c .before .before .before .before .before .before .before .before .before .before .before .before .loop .inv .4) (c .before .before .before .before .before .before .before .before .before .before .before .before .loop .inv .3 .tries .set-up) (c .before .before .before .before .before .before .before .before .before .before .if1 .taken) (c .before .before .before .before .before .before .before .before .record-at .ensures) (c .before .before .before .before .before .try-column .ensures .1) (c .before .if2 .taken))
+
+same-length : tie.Need-same-length Inv-loop μ-loop
+same-length c = search needs
+
+returns : tie.Need-returns Inv-loop μ-loop
+returns c = (part-refused (c .before .before .before .before .before .before .before .before .before .before .before .before .before .before .before .args .n) (c .before .before .before .before .before .before .before .before .before .before .before .loop .inv .3) (c .before .before .before .before .try-column .ensures .0) (c .if2 .left), part-stops (c .before .before .before .before .before .before .before .before .before .before .before .loop .inv .4) (c .before .before .before .before .before .before .before .before .before .before .before .loop .inv .3 .tries .set-up) (c .before .before .before .before .before .before .before .before .before .if1 .taken) (c .before .before .before .before .before .before .before .record-at .ensures) (c .before .before .before .before .try-column .ensures .1) (c .if2 .left))
+
+add-t26 : tie.Need-add-t26 Inv-loop μ-loop
+add-t26 c = omega (arith, c .before .before .before .before .before .before .before .pre .2)
 
 same-length-2 : tie.Need-same-length-2 Inv-loop μ-loop
 same-length-2 c = search needs
@@ -75,12 +85,15 @@ try-part-spec =
     mul-source
     element-copy-out-source
     record-at-requires
-    try-column-requires
-    same-length
-    returns
     add-c
+    enum-told
     loop-less
     loop-again
-    add-t23
+    try-column-requires
+    loop-less-2
+    loop-again-2
+    same-length
+    returns
+    add-t26
     same-length-2
     returns-2)
