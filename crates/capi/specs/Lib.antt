@@ -1,1 +1,6 @@
--- Laws that the proofs of this crate cite.
+-- What each call of the C layer answers and leaves, and the laws that the proofs cite.
+pub mod Api
+pub mod ApiLaws
+pub mod NewLaws
+pub mod HandsOn
+pub mod QuietLaws

@@ -1,70 +1,48 @@
 // The C layer: the calls of the coalescer on numbers and byte slices, the state coded in 304 bytes. docs/HOST.md has each signature.
-// No function trusts its caller beyond what a slice is. An answer of two numbers is one u64: the refusal in the upper 32 bits, or 0, and the
-// value in the lower.
+// No function trusts its caller beyond what a slice is: its contract says what it answers and leaves on any bytes. An answer of two numbers is
+// one u64: the refusal in the upper 32 bits, or 0, and the value in the lower.
 ghost use mathlib.Core.Path.{_≡_};
-ghost use Prim.Native.Nat.{_+_, _*_, _≤_};
 ghost use lib.ListN.{length};
+ghost use Rattle.rules.specs.Batch.{batch};
+ghost use Rattle.capi.specs.Api.{memory, said, told, number, both, finishing, dropping, registering, lettingGo, Keeps, called, askedFor, askable, created};
+ghost use Rattle.capi.specs.HandsOn.{HandsOn};
+ghost use Rattle.capi.specs.Api.{bufferNumber, bufferRead, rowIn, rowRead, limitSet, limitRead, rowsBuffered, completedFlag, emptyFlag};
 use counts::BufferNumber;
 use counts::ByteCount;
 use counts::RowCount;
-use pool::Registered;
 use set_up::Wanted;
 use state::BatchCoalescer;
-use state::Limit;
-use state::Place;
 use state::RowAnswer;
 
-// The kinds that set-up is asked for, from words; 0 past the last.
-fn kinds_of(kinds: &[u8]) -> [u32; 16]
-    requires { ⌜ length (now kinds) ≤ 64 ⌝ }
+// The state coded where the number of a refusal is 0; hands on that number.
+fn keep(state: &mut [u8], refusal: u32, s: BatchCoalescer) -> u32
+    requires { ⌜ length (now state) ≡ 304 ⌝ }
+    ensures { λ r. ⌜ Keeps refusal s (now (state .entry)) (now (state .exit)) r ⌝ }
 {
-    let mut all: [u32; 16] = [0; 16];
-    let mut c: usize = 0;
-    while 4 * c + 4 <= kinds.len() {
-        all[c] = words::get32(kinds, 4 * c);
-        c += 1;
-    }
-    all
-}
-
-// Where a value is, in five words: 1 in its row: the start in the slots, low word and high, 0, length; 2 in a buffer: its number, 0, offset,
-// length.
-fn put_place(out: &mut [u8], place: Place)
-    requires { ⌜ length (now out) ≡ 20 ⌝ }
-{
-    match place {
-        Place::InRow(start, n) => {
-            let low = (start % 4294967296) as u32;
-            let high = (start / 4294967296) as u32;
-            put_five(out, 1, low, high, 0, n.0);
-        }
-        Place::InBuffer(k, offset, n) => put_five(out, 2, k.0, 0, offset, n.0),
+    if refusal == 0 {
+        codes::encode(state, s);
+        0
+    } else {
+        refusal
     }
 }
 
-fn put_five(out: &mut [u8], a: u32, b: u32, c: u32, d: u32, e: u32)
-    requires { ⌜ length (now out) ≡ 20 ⌝ }
+// Whether set-up can be asked for: a state of 304 bytes, at most 16 kinds in whole words, and a pool whose length is a number of it.
+fn is_askable(state: usize, kinds: usize, pool: usize) -> bool
+    ensures { λ r. ⌜ r ≡ askable state kinds pool ⌝ }
 {
-    words::put32(out, 0, a);
-    words::put32(out, 4, b);
-    words::put32(out, 8, c);
-    words::put32(out, 12, d);
-    words::put32(out, 16, e);
-}
-
-fn put_answer(out: &mut [u8], answer: RowAnswer) -> u32
-    requires { ⌜ length (now out) ≡ 20 ⌝ }
-{
-    match answer {
-        RowAnswer::Null => {
-            put_five(out, 0, 0, 0, 0, 0);
-            0
+    if state == 304 {
+        if kinds <= 64 {
+            if kinds % 4 == 0 {
+                pool <= 4294967295
+            } else {
+                false
+            }
+        } else {
+            false
         }
-        RowAnswer::Value(place) => {
-            put_place(out, place);
-            0
-        }
-        RowAnswer::Refused(number) => number,
+    } else {
+        false
     }
 }
 
@@ -81,35 +59,25 @@ pub extern "C" fn pw_new(
     queue: u32,
     lists: u32,
     numbers: u32,
-) -> u32 {
-    if state.len() != 304 {
-        return 1;
-    }
-    if 64 < kinds.len() {
-        return 1;
-    }
-    if kinds.len() % 4 != 0 {
-        return 1;
-    }
-    if 4294967295 < pool.len() {
-        return 1;
-    }
-    let wanted = Wanted {
-        target: RowCount(target),
-        rows: RowCount(rows),
-        queue,
-        columns: (kinds.len() / 4) as u32,
-        kinds: kinds_of(kinds),
-        lists,
-        numbers,
-        pool: ByteCount(pool.len() as u32),
-    };
-    let step = set_up::new_coalescer(wanted, slots, pool, books);
-    if step.number == 0 {
-        keep(state, step.state);
-        0
+) -> u32
+    ensures { λ r. ⌜ said r (memory (now (state .exit)) (now (slots .entry)) (now (pool .entry)) (now (books .exit)))
+        ≡ created (askedFor target rows queue lists numbers (now (kinds .entry)) (length (now (pool .entry)))) (now (kinds .entry)) (memory (now (state .entry)) (now (slots .entry)) (now (pool .entry)) (now (books .entry))) ⌝ }
+{
+    if is_askable(state.len(), kinds.len(), pool.len()) {
+        let wanted = Wanted {
+            target: RowCount(target),
+            rows: RowCount(rows),
+            queue,
+            columns: (kinds.len() / 4) as u32,
+            kinds: crossing::kinds_of(kinds),
+            lists,
+            numbers,
+            pool: ByteCount(pool.len() as u32),
+        };
+        let step = set_up::new_coalescer(wanted, slots, pool, books);
+        keep(state, step.number, step.state)
     } else {
-        step.number
+        1
     }
 }
 
@@ -123,18 +91,18 @@ pub extern "C" fn pw_push_batch(
     records: &[u8],
     body: &[u8],
     rows: u32,
-) -> u32 {
+) -> u32
+    ensures { λ r. ⌜ HandsOn (memory (now (state .entry)) (now (slots .entry)) (now (pool .entry)) (now (books .entry))) (batch rows (now (records .entry)) (now (body .entry))) r
+        (memory (now (state .exit)) (now (slots .exit)) (now (pool .exit)) (now (books .exit))) ⌝ }
+{
     let coded = codes::decode(state);
-    if coded.number != 0 {
-        return coded.number;
-    }
-    let s = coded.state;
-    let step = coalesce::push_batch(s, slots, pool, books, records, body, RowCount(rows));
-    if step.number == 0 {
-        keep(state, step.state);
-        0
+    if coded.number == 0 {
+        let s = coded.state;
+        let step = coalesce::push_batch(s, slots, pool, books, records, body, RowCount(rows));
+        let pushed = step.state;
+        keep(state, step.number, pushed)
     } else {
-        step.number
+        coded.number
     }
 }
 
@@ -145,18 +113,18 @@ pub extern "C" fn pw_finish_buffered_batch(
     slots: &mut [u8],
     pool: &[u8],
     books: &mut [u8],
-) -> u32 {
+) -> u32
+    ensures { λ r. ⌜ said r (memory (now (state .exit)) (now (slots .exit)) (now (pool .entry)) (now (books .exit)))
+        ≡ called number finishing (memory (now (state .entry)) (now (slots .entry)) (now (pool .entry)) (now (books .entry))) ⌝ }
+{
     let coded = codes::decode(state);
-    if coded.number != 0 {
-        return coded.number;
-    }
-    let s = coded.state;
-    let step = coalesce::finish_buffered_batch(s, slots, pool, books);
-    if step.number == 0 {
-        keep(state, step.state);
-        0
+    if coded.number == 0 {
+        let s = coded.state;
+        let step = coalesce::finish_buffered_batch(s, slots, pool, books);
+        let finished = step.state;
+        keep(state, step.number, finished)
     } else {
-        step.number
+        coded.number
     }
 }
 
@@ -167,18 +135,19 @@ pub extern "C" fn pw_next_completed_batch(
     slots: &[u8],
     pool: &[u8],
     books: &mut [u8],
-) -> u64 {
+) -> u64
+    ensures { λ r. ⌜ said r (memory (now (state .exit)) (now (slots .entry)) (now (pool .entry)) (now (books .exit)))
+        ≡ called both dropping (memory (now (state .entry)) (now (slots .entry)) (now (pool .entry)) (now (books .entry))) ⌝ }
+{
     let coded = codes::decode(state);
-    if coded.number != 0 {
-        return both(coded.number, 0);
-    }
-    let s = coded.state;
-    let dropped = completed::next_completed_batch(s, slots, pool, books);
-    if dropped.number == 0 {
-        keep(state, dropped.state);
-        both(0, dropped.rows.0)
+    if coded.number == 0 {
+        let s = coded.state;
+        let dropped = completed::next_completed_batch(s, slots, pool, books);
+        let t = dropped.state;
+        let refusal = keep(state, dropped.number, t);
+        crossing::both(refusal, dropped.rows.0)
     } else {
-        both(dropped.number, 0)
+        crossing::both(coded.number, 0)
     }
 }
 
@@ -191,16 +160,17 @@ pub extern "C" fn pw_register_buffer(
     books: &mut [u8],
     bytes: &[u8],
     capacity: u32,
-) -> u64 {
+) -> u64
+    ensures { λ r. ⌜ said r (memory (now (state .entry)) (now (slots .entry)) (now (pool .exit)) (now (books .exit)))
+        ≡ called both (registering (now (bytes .entry)) capacity) (memory (now (state .entry)) (now (slots .entry)) (now (pool .entry)) (now (books .entry))) ⌝ }
+{
     let coded = codes::decode(state);
-    if coded.number != 0 {
-        return both(coded.number, 0);
-    }
-    let s = coded.state;
-    let answer = reads::register_buffer(s, slots, pool, books, bytes, ByteCount(capacity));
-    match answer {
-        Registered::Number(k) => both(0, k.0),
-        Registered::Refused(number) => both(number, 0),
+    if coded.number == 0 {
+        let s = coded.state;
+        let answer = reads::register_buffer(s, slots, pool, books, bytes, ByteCount(capacity));
+        crossing::registered_pair(answer)
+    } else {
+        crossing::both(coded.number, 0)
     }
 }
 
@@ -212,13 +182,17 @@ pub extern "C" fn pw_let_go(
     pool: &[u8],
     books: &mut [u8],
     buffer: u32,
-) -> u32 {
+) -> u32
+    ensures { λ r. ⌜ said r (memory (now (state .entry)) (now (slots .entry)) (now (pool .entry)) (now (books .exit)))
+        ≡ called number (lettingGo buffer) (memory (now (state .entry)) (now (slots .entry)) (now (pool .entry)) (now (books .entry))) ⌝ }
+{
     let coded = codes::decode(state);
-    if coded.number != 0 {
-        return coded.number;
+    if coded.number == 0 {
+        let s = coded.state;
+        reads::let_go(s, slots, pool, books, BufferNumber(buffer))
+    } else {
+        coded.number
     }
-    let s = coded.state;
-    reads::let_go(s, slots, pool, books, BufferNumber(buffer))
 }
 
 // The refusal of a read of a buffer, or 0.
@@ -229,13 +203,16 @@ pub extern "C" fn pw_buffer_refusal(
     pool: &[u8],
     books: &[u8],
     buffer: u32,
-) -> u32 {
+) -> u32
+    ensures { λ r. ⌜ r ≡ bufferNumber (memory (now (state .entry)) (now (slots .entry)) (now (pool .entry)) (now (books .entry))) buffer ⌝ }
+{
     let coded = codes::decode(state);
-    if coded.number != 0 {
-        return coded.number;
+    if coded.number == 0 {
+        let s = coded.state;
+        reads::buffer_refusal(s, slots, pool, books, BufferNumber(buffer))
+    } else {
+        coded.number
     }
-    let s = coded.state;
-    reads::buffer_refusal(s, slots, pool, books, BufferNumber(buffer))
 }
 
 // A buffer's bytes copied to the front of `out`, as far as both go: how many the buffer has, 0 where the read is refused.
@@ -247,16 +224,39 @@ pub extern "C" fn pw_read_buffer(
     books: &[u8],
     buffer: u32,
     out: &mut [u8],
-) -> u64 {
+) -> u64
+    ensures { λ r. ⌜ told r (now (out .exit)) ≡ bufferRead (memory (now (state .entry)) (now (slots .entry)) (now (pool .entry)) (now (books .entry))) buffer (now (out .entry)) ⌝ }
+{
     let coded = codes::decode(state);
-    if coded.number != 0 {
-        return 0;
+    if coded.number == 0 {
+        let s = coded.state;
+        let part = reads::read_buffer(s, slots, pool, books, BufferNumber(buffer));
+        let size = part.len() as u64;
+        crossing::copy_front(out, part);
+        size
+    } else {
+        0
     }
-    let s = coded.state;
-    let part = reads::read_buffer(s, slots, pool, books, BufferNumber(buffer));
-    let size = part.len() as u64;
-    copy_front(out, part);
-    size
+}
+
+// What reading a row answers, or the refusal of bytes that code no state.
+fn row_answer(
+    state: &[u8],
+    slots: &[u8],
+    pool: &[u8],
+    books: &[u8],
+    column: u32,
+    row: u32,
+) -> RowAnswer
+    ensures { λ r. ⌜ r ≡ rowIn (memory (now (state .entry)) (now (slots .entry)) (now (pool .entry)) (now (books .entry))) column row ⌝ }
+{
+    let coded = codes::decode(state);
+    if coded.number == 0 {
+        let s = coded.state;
+        reads::read_row(s, slots, pool, books, column, row)
+    } else {
+        RowAnswer::Refused(coded.number)
+    }
 }
 
 // Row `row` of column `column` of the front batch, in the 20 bytes of `out`: five words, the first 0 for null. 0, or the number of the
@@ -270,10 +270,12 @@ pub extern "C" fn pw_read_row(
     column: u32,
     row: u32,
     out: &mut [u8],
-) -> u32 {
+) -> u32
+    ensures { λ r. ⌜ told r (now (out .exit)) ≡ rowRead (memory (now (state .entry)) (now (slots .entry)) (now (pool .entry)) (now (books .entry))) column row (now (out .entry)) ⌝ }
+{
     if out.len() == 20 {
         let answer = row_answer(state, slots, pool, books, column, row);
-        put_answer(out, answer)
+        crossing::put_answer(out, answer)
     } else {
         1
     }
@@ -281,96 +283,56 @@ pub extern "C" fn pw_read_row(
 
 // The limit set to so many rows, or unset where `set` is 0: 0, or the number of the refusal of bytes that code no state.
 #[no_mangle]
-pub extern "C" fn pw_set_biggest_coalesce_batch_size(state: &mut [u8], set: u32, rows: u32) -> u32 {
+pub extern "C" fn pw_set_biggest_coalesce_batch_size(state: &mut [u8], set: u32, rows: u32) -> u32
+    ensures { λ r. ⌜ told r (now (state .exit)) ≡ limitSet set rows (now (state .entry)) ⌝ }
+{
     let coded = codes::decode(state);
-    if coded.number != 0 {
-        return coded.number;
+    if coded.number == 0 {
+        let s = coded.state;
+        let limit = codes::limit_of(set, rows);
+        let t = reads::set_biggest_coalesce_batch_size(s, limit);
+        keep(state, 0, t)
+    } else {
+        coded.number
     }
-    let s = coded.state;
-    let limit = limit_for(set, rows);
-    keep(state, reads::set_biggest_coalesce_batch_size(s, limit));
-    0
 }
 
 // The limit: 1 in the upper 32 bits where one is set, and its rows in the lower.
 #[no_mangle]
-pub extern "C" fn pw_biggest_coalesce_batch_size(state: &[u8]) -> u64 {
+pub extern "C" fn pw_biggest_coalesce_batch_size(state: &[u8]) -> u64
+    ensures { λ r. ⌜ r ≡ limitRead (now (state .entry)) ⌝ }
+{
     let coded = codes::decode(state);
-    let limit = reads::biggest_coalesce_batch_size(coded.state);
-    match limit {
-        Limit::Rows(most) => both(1, most.0),
-        Limit::Unset => 0,
-    }
+    let s = coded.state;
+    crossing::limit_pair(reads::biggest_coalesce_batch_size(s))
 }
 
 // The rows buffered.
 #[no_mangle]
-pub extern "C" fn pw_get_buffered_rows(state: &[u8]) -> u32 {
+pub extern "C" fn pw_get_buffered_rows(state: &[u8]) -> u32
+    ensures { λ r. ⌜ r ≡ rowsBuffered (now (state .entry)) ⌝ }
+{
     let coded = codes::decode(state);
-    reads::get_buffered_rows(coded.state).0
+    let s = coded.state;
+    reads::get_buffered_rows(s).0
 }
 
 // 1 where a batch is queued, else 0.
 #[no_mangle]
-pub extern "C" fn pw_has_completed_batch(state: &[u8]) -> u32 {
+pub extern "C" fn pw_has_completed_batch(state: &[u8]) -> u32
+    ensures { λ r. ⌜ r ≡ completedFlag (now (state .entry)) ⌝ }
+{
     let coded = codes::decode(state);
-    if reads::has_completed_batch(coded.state) {
-        1
-    } else {
-        0
-    }
+    let s = coded.state;
+    crossing::flag(reads::has_completed_batch(s))
 }
 
 // 1 where nothing is buffered or queued, else 0.
 #[no_mangle]
-pub extern "C" fn pw_is_empty(state: &[u8]) -> u32 {
-    let coded = codes::decode(state);
-    if reads::is_empty(coded.state) { 1 } else { 0 }
-}
-
-// Two numbers as one.
-fn both(refusal: u32, value: u32) -> u64
-    ensures { λ r. ⌜ r ≡ refusal * 4294967296 + value ⌝ }
+pub extern "C" fn pw_is_empty(state: &[u8]) -> u32
+    ensures { λ r. ⌜ r ≡ emptyFlag (now (state .entry)) ⌝ }
 {
-    (refusal as u64) * 4294967296 + (value as u64)
-}
-
-// The state coded. `codes::decode` refuses bytes of another length, so that no call comes here with such.
-fn keep(state: &mut [u8], s: BatchCoalescer) {
-    if state.len() == 304 {
-        codes::encode(state, s);
-        return;
-    }
-}
-
-// As many bytes of one slice as both have, at the front of the other.
-fn copy_front(out: &mut [u8], part: &[u8]) {
-    let n = counts::smaller(out.len() as u64, part.len() as u64) as usize;
-    words::put_part(out, 0, part, 0, n);
-}
-
-// What reading a row answers, or the refusal of bytes that code no state.
-fn row_answer(
-    state: &[u8],
-    slots: &[u8],
-    pool: &[u8],
-    books: &[u8],
-    column: u32,
-    row: u32,
-) -> RowAnswer {
     let coded = codes::decode(state);
-    if coded.number == 0 {
-        let s = coded.state;
-        reads::read_row(s, slots, pool, books, column, row)
-    } else {
-        RowAnswer::Refused(coded.number)
-    }
-}
-
-fn limit_for(set: u32, rows: u32) -> Limit {
-    if set == 0 {
-        Limit::Unset
-    } else {
-        Limit::Rows(RowCount(rows))
-    }
+    let s = coded.state;
+    crossing::flag(reads::is_empty(s))
 }

@@ -22,7 +22,8 @@ use Rattle.alike.specs.Like.{numberOf, Opens, Apart}
 use Rattle.trial.specs.Trial.{Restored, Answers}
 use Rattle.trial.specs.NumberLaws.{clean-tidy, restored-exact, restored-none, answers-number, answers-refuses}
 use Rattle.coalesce.specs.declared.Verdict.{Verdict}
-use Rattle.coalesce.specs.Push.{verdictOf, Judges, Ready, Orderly, answered, Does, Pushes}
+use Rattle.finishing.specs.Finish.{answered}
+use Rattle.coalesce.specs.Push.{verdictOf, Judges, Ready, Orderly, Does, Pushes}
 use Rattle.coalesce.specs.PushLaws.{VerdictCase, refuses, nothing, goes, verdict-case, judged-go, judged-nothing, judged-refused}
 
 -- ---- the exits of push_judged

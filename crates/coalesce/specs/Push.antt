@@ -1,7 +1,6 @@
--- The tests of a push, by cases; and what a push and a finish promise of a call that its tests refuse.
+-- The tests of a push, by cases; and what a push promises of a call that its tests refuse.
 use Prim.Native.Nat.{ℕ}
 use mathlib.Core.Path.{_≡_}
-use mathlib.Core.Logic.{_≢_}
 use mathlib.Core.Bool.{cond}
 use mathlib.Core.List.{List}
 use mathlib.Core.Option.{Option, none, some}
@@ -23,6 +22,7 @@ use Rattle.rules.specs.Ranges.{tested}
 use Rattle.rules.specs.Steps.{inBooks}
 use Rattle.rules.specs.Push.{stepped}
 use Rattle.rules.specs.Calls.{Answered, orOld, pushCall}
+use Rattle.finishing.specs.Finish.{answered}
 use Rattle.coalesce.specs.declared.Verdict.{Verdict}
 
 abbrev pub ofFault : Option Fault → Verdict
@@ -62,10 +62,6 @@ pub record Orderly (w : World) : Type 0 where
   pub tidy : Tidy (w .books) (w .state .numbers)
   pub apart : Apart (w .state) (w .books)
 
--- the code's answer, with the world that it leaves
-abbrev pub answered : Step → List ℕ → List ℕ → List ℕ → Answered
-answered r slots pool books = record { number = r .number; world = world (r .state) slots pool books }
-
 -- the steps of a push that passed its tests: what they make of the books that its trial left, which are those before it but for entries of free
 -- numbers; and the number, whichever of the two books they are worked out from
 pub record Does (w : World) (b : Batch) (r : Step) (slots′ pool′ books′ : List ℕ) : Type 0 where
@@ -81,7 +77,3 @@ pub record Pushes (w : World) (b : Batch) (r : Step) (slots′ pool′ books′ 
   pub number : Apart (w .state) (w .books) → r .number ≡ pushCall w b .number
   pub judged : Judged (verdictOf w b) w r slots′ pool′ books′
   pub done : verdictOf w b ≡ Verdict.Go → Does w b r slots′ pool′ books′
-
--- so a call that its tests answer with n
-pub record Refuses (n : ℕ) (w : World) (r : Step) (slots′ pool′ books′ : List ℕ) : Type 0 where
-  pub refused : n ≢ 0 → Unchanged w n r slots′ pool′ books′

@@ -29,7 +29,7 @@ use Rattle.rules.specs.Checks.{keepsRules, liesInBody, allHeld, validRow, badRo
 use Rattle.rules.specs.CheckLaws.{fault-number}
 use Rattle.rules.specs.Held.{among-not}
 use Rattle.rules.specs.Steps.{ok, refuse}
-use Rattle.rules.specs.Push.{pushed, stepped}
+use Rattle.rules.specs.Push.{pushed, stepped, finished}
 use Rattle.rules.specs.Ranges.{tested}
 use Rattle.trial.specs.UnmarkedLaws.{tested-unmarked}
 use Rattle.routes.specs.declared.Sources.{Sources}
@@ -37,7 +37,10 @@ use Rattle.routes.specs.Sourced.{Sourced}
 use Rattle.trial.specs.Trial.{Restored}
 use Rattle.trial.specs.RestoredLaws.{restored-pushing, restored-sourced}
 use Rattle.coalesce.specs.declared.Verdict.{Verdict}
-use Rattle.coalesce.specs.Push.{ofFault, verdictOf, Judges, Ready, Judged, Refuses}
+use Rattle.rules.specs.Calls.{finishCall}
+use Rattle.rules.specs.CallLaws.{finish-tested, finish-steps}
+use Rattle.finishing.specs.Finish.{answered, Finishes}
+use Rattle.coalesce.specs.Push.{ofFault, verdictOf, Judges, Ready, Judged}
 
 -- ---- slots and pool are read for their lengths only
 
@@ -237,11 +240,12 @@ module _ {s : BatchCoalescer} {slots pool books : List ℕ} {b : Batch} {v : Ver
             record { number-is = cc; world-is = refl };
       }
 
--- ---- the exits of finish_buffered_batch
+-- ---- the exits of finish_buffered_batch: n is what the tests answered
 
 module _ (s : BatchCoalescer) (slots pool books : List ℕ) {n : ℕ} (e : n ≡ tested (world s slots pool books)) where
-  pub finish-tried : {r : Step} {slots′ books′ : List ℕ} → n ≡ 0 → Refuses (tested (world s slots pool books)) (world s slots pool books) r slots′ pool books′
-  finish-tried z = record { refused = λ h. absurd (h (sym e ∙ z)) }
+  pub finish-done : {r : Step} {slots′ books′ : List ℕ} → n ≡ 0 → Finishes finished s slots books r slots′ books′ → answered r slots′ pool books′ ≡ finishCall (world s slots pool books)
+  finish-done z f = f .is pool ∙ sym (finish-steps (world s slots pool books) (sym e ∙ z))
 
-  pub finish-refused : (n ≡ 0 → ⊥) → Refuses (tested (world s slots pool books)) (world s slots pool books) (record { state = s; number = n }) slots pool books
-  finish-refused h = record { refused = λ m. record { number-is = e; world-is = refl } }
+  pub finish-stopped : (n ≡ 0 → ⊥) → answered (record { state = s; number = n }) slots pool books ≡ finishCall (world s slots pool books)
+  finish-stopped h =
+      rw e (sym (finish-tested (world s slots pool books) (λ z. h (e ∙ z))))

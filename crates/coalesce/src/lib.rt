@@ -1,10 +1,12 @@
 // Pushing and finishing: small batches of rows in, batches of the target size out, in order.
 // From arrow-select 60.0.0, src/coalesce.rs: `BatchCoalescer::push_batch`, `finish_buffered_batch`. The state goes by value; slots, pool and books are
 // lent. A call that refuses, by 01's number, changes nothing.
+ghost use mathlib.Core.Path.{_≡_};
 ghost use Rattle.state.specs.World.{world};
 ghost use Rattle.rules.specs.Batch.{batch};
-ghost use Rattle.rules.specs.Ranges.{tested};
-ghost use Rattle.coalesce.specs.Push.{Judges, Ready, Does, Pushes, Refuses};
+ghost use Rattle.rules.specs.Calls.{finishCall};
+ghost use Rattle.finishing.specs.Finish.{answered};
+ghost use Rattle.coalesce.specs.Push.{Judges, Ready, Does, Pushes};
 use columns::Step;
 use counts::RowCount;
 use state::BatchCoalescer;
@@ -93,19 +95,22 @@ pub fn push_batch(
     }
 }
 
-// finish_buffered_batch.
+// finish_buffered_batch: the answer and the world of 01's call, whatever state and memory it is handed. 1, 14, 9.
 pub fn finish_buffered_batch(
     s: BatchCoalescer,
     slots: &mut [u8],
     pool: &[u8],
     books: &mut [u8],
 ) -> Step
-    ensures { λ r. ⌜ Refuses (tested (world s (now (slots .entry)) (now (pool .entry)) (now (books .entry)))) (world s (now (slots .entry)) (now (pool .entry)) (now (books .entry))) r (now (slots .exit)) (now (pool .entry)) (now (books .exit)) ⌝ }
+    ensures { λ r. ⌜ answered r (now (slots .exit)) (now (pool .entry)) (now (books .exit)) ≡ finishCall (world s (now (slots .entry)) (now (pool .entry)) (now (books .entry))) ⌝ }
 {
-    let number = ranges::tested(s, slots, pool, books);
-    if number == 0 {
-        steps::finish(s, slots, books)
+    let refusal = ranges::tested(s, slots, pool, books);
+    if refusal == 0 {
+        finishing::finish(s, slots, books)
     } else {
-        Step { state: s, number }
+        Step {
+            state: s,
+            number: refusal,
+        }
     }
 }

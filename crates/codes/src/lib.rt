@@ -24,7 +24,8 @@ pub struct Coded {
     pub state: BatchCoalescer,
 }
 
-fn limit_of(set: u32, rows: u32) -> Limit
+// A limit from a flag and a number of rows.
+pub fn limit_of(set: u32, rows: u32) -> Limit
     ensures { λ r. ⌜ r ≡ limitIn set rows ⌝ }
 {
     if set == 0 {
@@ -186,7 +187,7 @@ pub fn decode(bytes: &[u8]) -> Coded
 }
 
 // The words a and b at `at`: each of the functions below writes behind what stands already, from word 0 on.
-fn put_two(bytes: &mut [u8], at: usize, a: u32, b: u32)
+pub fn put_two(bytes: &mut [u8], at: usize, a: u32, b: u32)
     requires { ⌜ at + 8 ≤ length (now bytes) ⌝ }
     ensures { λ _. ⌜ take (at + 8) (now (bytes .exit)) ≡ take at (now (bytes .entry)) ++ bytesOf (a ∷ b ∷ []) ⌝ }
 {
@@ -194,7 +195,7 @@ fn put_two(bytes: &mut [u8], at: usize, a: u32, b: u32)
     words::put32(bytes, at + 4, b);
 }
 
-fn put_three(bytes: &mut [u8], at: usize, a: u32, b: u32, c: u32)
+pub fn put_three(bytes: &mut [u8], at: usize, a: u32, b: u32, c: u32)
     requires { ⌜ at + 12 ≤ length (now bytes) ⌝ }
     ensures { λ _. ⌜ take (at + 12) (now (bytes .exit)) ≡ take at (now (bytes .entry)) ++ bytesOf (a ∷ b ∷ c ∷ []) ⌝ }
 {

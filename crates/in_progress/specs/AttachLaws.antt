@@ -32,8 +32,10 @@ use Rattle.columns.specs.Column.{closedLength}
 use Rattle.columns.specs.SourceLaws.{list-same, closed-answer, list-within}
 use Rattle.going.specs.CallerLaws.{run-bounds, cells-room, values-room, long-index, list-listed}
 use Rattle.going.specs.Along.{Along}
-use Rattle.in_progress.specs.Part.{Ready, ViewPart, AnyPart, Listable, Closes, Attaches, AttachesPart, Raises}
-use Rattle.in_progress.specs.AskLaws.{zeros, length-zeros, part-few, part-slot, part-books, part-column, part-place, part-at, run-booked}
+use Rattle.open_blocks.specs.Open.{Ready, Closes}
+use Rattle.in_progress.specs.Part.{ViewPart, AnyPart, Listable, Attaches, AttachesPart, Raises}
+use Rattle.open_blocks.specs.AskLaws.{zeros, length-zeros, run-booked}
+use Rattle.in_progress.specs.AskLaws.{part-few, part-slot, part-books, part-column, part-place, part-at}
 use Rattle.in_progress.specs.AlongLaws.{views-on, closed-along}
 
 -- ---- append_list

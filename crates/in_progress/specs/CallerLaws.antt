@@ -1,10 +1,9 @@
 -- What callers have of a part of a column: that it may be copied, that its list may be attached, and which definition it is.
 use Prim.Native.Nat.{ℕ, _+_, _≤_, _<_}
 use mathlib.Core.Path.{_≡_, sym, _∙_, ap}
-use mathlib.Core.Bool.{true, cond}
+use mathlib.Core.Bool.{cond}
 use mathlib.Core.List.{List}
 use native.Mathlib.Omega.{arith}
-use lib.ListN.{length}
 use Rattle.byte_view.specs.declared.Source.{Source}
 use Rattle.primitive.specs.declared.Rows.{Rows}
 use Rattle.rules.specs.declared.ColumnRecord.{ColumnRecord}
@@ -15,15 +14,14 @@ use Rattle.rules.specs.Stays.{SameSetUp}
 use Rattle.rules.specs.SameLaws.{same-views, same-ideal}
 use Rattle.state.specs.declared.BatchCoalescer.{BatchCoalescer}
 use Rattle.state.specs.World.{World, world}
-use Rattle.state.specs.Layout.{isViews, valuesPlace, slotsLength, listLength}
+use Rattle.state.specs.Layout.{isViews, valuesPlace, listLength}
 use Rattle.columns.specs.Column.{sourceFor}
-use Rattle.columns.specs.Pushing.{Running}
 use Rattle.columns.specs.SourceLaws.{source-way, source-ideal, list-same}
 use Rattle.going.specs.Run.{Run, Readable}
 use Rattle.going.specs.TestedLaws.{bounds-say}
 use Rattle.going.specs.AttachGoes.{listed-length, listed-used}
 use Rattle.going.specs.Firm.{Firm}
-use Rattle.in_progress.specs.Part.{Booked, Ready, Part, Listable, Decided, copiedBy}
+use Rattle.in_progress.specs.Part.{Part, Listable, Decided, copiedBy}
 
 -- n rows of column c of the batch from row `from` on, behind those buffered
 abbrev pub rowsOf : World → ℕ → ℕ → ℕ → Rows
@@ -55,14 +53,6 @@ module _ (w₀ w : World) (b : Batch) (c : ℕ) (e : SameSetUp (w₀ .state) (w 
   copied-is p f g =
       let h : x .way ≡ cond (isViews (w .state) c) (way w₀ b c) Way.Copied = ap (λ (z : Source). z .way) q ∙ source-way w₀ b c ∙ rw (same-views e c) in
       rw (f, g, h)
-
--- ---- state and books in order
-
-pub running-booked : {s : BatchCoalescer} {books : List ℕ} → Running s books → Booked s books
-running-booked r = record { run = r .run }
-
-pub ready-at : {s : BatchCoalescer} {slots books : List ℕ} {c : ℕ} → Booked s books → length slots ≡ slotsLength s → c < s .columns → isViews s c ≡ true → Ready s slots books c
-ready-at b l h y = record { booked = b; slots-are = l; column = h; views = y }
 
 -- ---- a list that may be attached: of a batch queued whole too, where an open block need not have a place any more
 

@@ -30,8 +30,9 @@ use Rattle.going.specs.Along.{Along}
 use Rattle.going.specs.BlockGoes.{open-entry}
 use Rattle.going.specs.CallerLaws.{run-bounds, values-room}
 use Rattle.going.specs.SumLaws.{walked-most, walked-rest}
-use Rattle.in_progress.specs.Part.{Booked, Ready, ViewPart, Fits, Walks, firstRows, rowsBehind, longOf, compacting, openedFor, walkedOf, walkedOn, Closes, Opens}
-use Rattle.in_progress.specs.AskLaws.{run-booked}
+use Rattle.open_blocks.specs.Open.{Booked, Ready, Closes, Opens}
+use Rattle.in_progress.specs.Part.{ViewPart, Fits, Walks, firstRows, rowsBehind, longOf, compacting, openedFor, walkedOf, walkedOn}
+use Rattle.open_blocks.specs.AskLaws.{run-booked}
 use Rattle.in_progress.specs.AlongLaws.{views-on, long-on, first-part, behind-part, long-both, long-ideal, closed-along, opened-fits, compacted-along}
 
 -- ---- open_and_copy

@@ -1,7 +1,6 @@
 -- What copying a part of a batch into a column asks and leaves, and the laws that the proofs cite.
 pub mod Part
 pub mod AskLaws
-pub mod BlockLaws
 pub mod AlongLaws
 pub mod StringLaws
 pub mod CompactLaws

@@ -4,19 +4,16 @@ use mathlib.Core.Path.{_≡_}
 use mathlib.Core.Bool.{true, false}
 use mathlib.Core.List.{List, []}
 use lib.ListN.{length}
-use Rattle.counts.specs.declared.ByteSum.{ByteSum}
-use Rattle.blocks.specs.Block.{asked}
 use Rattle.listings.specs.Listing.{Listed}
-use Rattle.room.specs.Room.{opened}
 use Rattle.byte_view.specs.declared.Source.{Source}
 use Rattle.primitive.specs.declared.Rows.{Rows}
 use Rattle.rules.specs.declared.ColumnRecord.{ColumnRecord}
 use Rattle.rules.specs.declared.Way.{Way}
 use Rattle.rules.specs.Batch.{Batch, recordOf, listOf, ideal}
 use Rattle.rules.specs.Steps.{Res, bind}
-use Rattle.rules.specs.Views.{isOpen, openRest, longBefore, closed, opening, blockOpened, viewsCompacted, walked, listAttached, viewsRaised, partAttached, bitsCopied, byWay}
+use Rattle.rules.specs.Views.{isOpen, openRest, longBefore, closed, blockOpened, viewsCompacted, walked, listAttached, viewsRaised, partAttached, bitsCopied, byWay}
 use Rattle.state.specs.declared.BatchCoalescer.{BatchCoalescer}
-use Rattle.state.specs.World.{World, world, columnOf}
+use Rattle.state.specs.World.{World, world}
 use Rattle.state.specs.Layout.{isViews, valuesPlace, slotsLength, booksLength, listLength}
 use Rattle.layout.specs.Few.{Few}
 use Rattle.columns.specs.declared.Step.{Step}
@@ -57,17 +54,6 @@ unfoldable pub copiedBy : World → Batch → Rows → Way → Res
 copiedBy w b p y = byWay (bitsCopied w b (p .column) (w .state .place) (p .at) (p .from) (p .count)) b (p .column) (p .at) (p .from) (p .count) y
 
 -- ---- what is asked
-
--- state and books are in order, whatever slots and pool of the right lengths are lent beside them
-pub record Booked (s : BatchCoalescer) (books : List ℕ) : Type 0 where
-  pub run : (slots pool : List ℕ) → length slots ≡ slotsLength s → length pool ≡ s .pool .0 → Run (world s slots pool books)
-
--- a column of views of the slot being filled
-pub record Ready (s : BatchCoalescer) (slots books : List ℕ) (c : ℕ) : Type 0 where
-  pub booked : Booked s books
-  pub slots-are : length slots ≡ slotsLength s
-  pub column : c < s .columns
-  pub views : isViews s c ≡ true
 
 -- rows of the batch, to be copied into column p .column: r is its record, p .place its place in the slot being filled
 pub record Part (w : World) (b : Batch) (r : ColumnRecord) (p : Rows) : Type 0 where
@@ -121,18 +107,6 @@ pub record Decided (w : World) (b : Batch) (c : ℕ) (x : Source) : Type 0 where
   pub plain : isViews (w .state) c ≡ false → x .way ≡ Way.Copied
 
 -- ---- what the steps leave
-
--- the open block of column c is closed
-pub record Closes (s : BatchCoalescer) (slots books : List ℕ) (c : ℕ) (t : BatchCoalescer) (slots′ books′ : List ℕ) : Type 0 where
-  pub is : (pool : List ℕ) → closed (world s slots pool books) c ≡ world t slots′ pool books′
-
--- a block is opened where its list has a place for it, or none is
-pub record OpensNext (s : BatchCoalescer) (books : List ℕ) (c : ℕ) (min : ByteSum) (q : Step) (books′ : List ℕ) : Type 0 where
-  pub steps : (slots pool : List ℕ) → Steps (opening (world s slots pool books) c (min .0) (opened books (s .numbers) (s .pool .0) (asked (columnOf s c .source) min .size .0))) q slots pool books′
-
--- a block is opened, or none is
-pub record Opens (s : BatchCoalescer) (books : List ℕ) (c min : ℕ) (q : Step) (books′ : List ℕ) : Type 0 where
-  pub steps : (slots pool : List ℕ) → length pool ≡ s .pool .0 → Steps (blockOpened (world s slots pool books) c min) q slots pool books′
 
 -- the list of column c is attached; a part with its list is, or is not
 pub record Attaches (s : BatchCoalescer) (slots books : List ℕ) (b : Batch) (c : ℕ) (slots′ books′ : List ℕ) : Type 0 where

@@ -1,116 +1,28 @@
-// One column of the slot being filled: a part of a batch copied into it, blocks opened and closed, lists attached.
-// From arrow-select 60.0.0, src/coalesce/byte_view.rs: `InProgressByteViewArray`: `copy_rows`, `finish_current`, and
-// `BufferSource::next_buffer`; src/coalesce/primitive.rs: `copy_rows`.
+// One column of the slot being filled: a part of a batch copied into it, lists attached.
+// From arrow-select 60.0.0, src/coalesce/byte_view.rs: `InProgressByteViewArray::copy_rows`; src/coalesce/primitive.rs: `copy_rows`.
 ghost use mathlib.Core.Path.{_≡_};
-ghost use mathlib.Core.Bool.{true};
 ghost use mathlib.Core.List.{[]};
-ghost use Prim.Native.Nat.{_+_, _*_, _-_, _≤_, _<_, _^_};
+ghost use Prim.Native.Nat.{_+_, _*_, _-_, _≤_, _<_};
 ghost use lib.ListN.{length};
-ghost use Rattle.words.specs.Word.{withWord32};
-ghost use Rattle.tallies.specs.Tally.{withTally};
-ghost use Rattle.sound.specs.Change.{withLength};
 ghost use Rattle.state.specs.declared.OpenBlock.{OpenBlock};
 ghost use Rattle.state.specs.World.{world, columnOf};
+ghost use Rattle.state.specs.Layout.{widthOf, listLength};
 ghost use Rattle.rules.specs.declared.Way.{Way};
-ghost use Rattle.state.specs.Layout.{isViews, widthOf, listPlace, listLength, slotsLength, booksLength, tally};
-ghost use Rattle.layout.specs.Few.{Few};
 ghost use Rattle.rules.specs.Batch.{batch, recordOf};
 ghost use Rattle.rules.specs.Steps.{ok};
 ghost use Rattle.rules.specs.Views.{closed, partCompacted};
 ghost use Rattle.columns.specs.Step.{Steps};
-ghost use Rattle.in_progress.specs.Part.{Booked, Ready, Part, ViewPart, AnyPart, Fits, Walks, Listable, Decided, firstRows, rowsBehind, longOf, compacting, openedFor, walkedOn, copiedBy, Closes, OpensNext, Opens, Attaches, AttachesPart, Raises};
+ghost use Rattle.in_progress.specs.Part.{Part, ViewPart, AnyPart, Fits, Walks, Listable, Decided, firstRows, rowsBehind, longOf, compacting, openedFor, walkedOn, copiedBy, Attaches, AttachesPart, Raises};
 use byte_view::Copying;
 use byte_view::Source;
 use columns::Step;
 use counts::BufferNumber;
 use counts::ByteSum;
 use primitive::Rows;
-use room::Chosen;
 use rules::ColumnRecord;
 use rules::Way;
 use state::BatchCoalescer;
 use state::OpenBlock;
-
-// A number at the end of the list of column c of the slot being filled.
-fn list_number(s: BatchCoalescer, slots: &mut [u8], books: &mut [u8], c: u32, number: BufferNumber)
-    requires { ⌜ (Few s) × (s .place ≤ s .queue) × (c < s .columns) × (isViews s c ≡ true) × (length (now slots) ≡ slotsLength s) × (length (now books) ≡ booksLength s)
-        × (listLength (world s [] [] (now books)) (s .place) c < s .lists) ⌝ }
-    ensures { λ _. ⌜ (now (slots .exit) ≡ withWord32 (now (slots .entry)) (listPlace s (s .place) c + 4 * listLength (world s [] [] (now (books .entry))) (s .place) c) (number .0))
-        × (now (books .exit) ≡ withTally (now (books .entry)) (tally s (s .place) (c + 1)) (listLength (world s [] [] (now (books .entry))) (s .place) c + 1)) ⌝ }
-{
-    let n = ranges::list_length(s, books, s.place, c);
-    let place = layout::list_place(s, s.place, c);
-    words::put32(slots, place + 4 * (n as usize), number.0);
-    columns::put_list_length(s, books, c, n + 1);
-}
-
-// finish_current: the open block joins its list, if there is one.
-pub fn finish_current(
-    s: BatchCoalescer,
-    slots: &mut [u8],
-    books: &mut [u8],
-    c: u32,
-) -> BatchCoalescer
-    requires { ⌜ Ready s (now slots) (now books) c ⌝ }
-    ensures { λ r. ⌜ Closes s (now (slots .entry)) (now (books .entry)) c r (now (slots .exit)) (now (books .exit)) ⌝ }
-{
-    let column = layout::column_of(s, c);
-    let block = column.block;
-    match block {
-        OpenBlock::Closed => s,
-        OpenBlock::Number(k) => {
-            list_number(s, slots, books, c, k);
-            columns::with_column(s, c, column.source, OpenBlock::Closed)
-        }
-    }
-}
-
-// A block for at least min bytes, where its list has a place. 11 and 12.
-fn open_next(s: BatchCoalescer, books: &mut [u8], c: u32, min: ByteSum) -> Step
-    requires { ⌜ (Booked s (now books)) × (c < s .columns) × (isViews s c ≡ true) ⌝ }
-    ensures { λ r. ⌜ OpensNext s (now (books .entry)) c min r (now (books .exit)) ⌝ }
-{
-    let column = layout::column_of(s, c);
-    let source = column.source;
-    let next = source.next_size(min);
-    let chosen = room::open_block(books, s.numbers, s.pool.0, next.size);
-    match chosen {
-        Chosen::Refused(number) => Step { state: s, number },
-        Chosen::At(r) => {
-            let number = r.number;
-            let kept = next.source;
-            let t = columns::with_column(s, c, kept, OpenBlock::Number(number));
-            Step {
-                state: t,
-                number: 0,
-            }
-        }
-    }
-}
-
-// next_buffer: a block for at least min bytes. 10, then 11 and 12.
-fn next_buffer(s: BatchCoalescer, books: &mut [u8], c: u32, min: ByteSum) -> Step
-    requires { ⌜ (Booked s (now books)) × (c < s .columns) × (isViews s c ≡ true) ⌝ }
-    ensures { λ r. ⌜ Opens s (now (books .entry)) c (min .0) r (now (books .exit)) ⌝ }
-{
-    let n = ranges::list_length(s, books, s.place, c);
-    if n < s.lists {
-        open_next(s, books, c, min)
-    } else {
-        Step {
-            state: s,
-            number: 10,
-        }
-    }
-}
-
-// The length of a buffer set.
-fn put_length(books: &mut [u8], i: u32, n: u32)
-    requires { ⌜ 24 + 20 * i ≤ length (now books) ⌝ }
-    ensures { λ _. ⌜ now (books .exit) ≡ withLength (now (books .entry)) i n ⌝ }
-{
-    words::put32(books, 12 + 20 * (i as usize), n);
-}
 
 // The views of a part, with their bytes in block k.
 fn copy_strings(
@@ -148,7 +60,7 @@ fn copy_strings(
         p.count,
         block.length.0,
     );
-    put_length(books, k.0, filled);
+    open_blocks::put_length(books, k.0, filled);
 }
 
 // The same into the open block, whichever it is.
@@ -195,7 +107,7 @@ fn open_and_copy(
     ensures { λ q. ⌜ Steps (openedFor (world s (now (slots .entry)) (now (pool .entry)) (now (books .entry))) (batch rows (now (records .entry)) (now (body .entry))) (min .0) p)
         q (now (slots .exit)) (now (pool .exit)) (now (books .exit)) ⌝ }
 {
-    let next = next_buffer(s, books, p.column, min);
+    let next = open_blocks::next_buffer(s, books, p.column, min);
     if next.number == 0 {
         let t = next.state;
         copy_into_open(t, slots, pool, books, records, body, rows, r, p);
@@ -226,7 +138,7 @@ fn move_and_copy(
     ensures { λ q. ⌜ Steps (openedFor (closed (world s (now (slots .entry)) (now (pool .entry)) (now (books .entry))) (p .column)) (batch rows (now (records .entry)) (now (body .entry))) (min .0) p)
         q (now (slots .exit)) (now (pool .exit)) (now (books .exit)) ⌝ }
 {
-    let t = finish_current(s, slots, books, p.column);
+    let t = open_blocks::finish_current(s, slots, books, p.column);
     open_and_copy(t, slots, pool, books, records, body, rows, r, p, min)
 }
 
@@ -396,7 +308,7 @@ fn attach(
 {
     let n = columns::list_closed(s, books, p.column);
     if (n as u64) + (r.count as u64) <= (s.lists as u64) {
-        let t = finish_current(s, slots, books, p.column);
+        let t = open_blocks::finish_current(s, slots, books, p.column);
         attach_list(t, slots, books, records, body, rows, r, p, n);
         Step {
             state: t,

@@ -33,9 +33,11 @@ use Rattle.columns.specs.SourceLaws.{run-few}
 use Rattle.routes.specs.declared.Sources.{Sources}
 use Rattle.routes.specs.Sourced.{noSource, Sourced}
 use Rattle.in_progress.specs.Part.{Part, Decided, copiedBy}
-use Rattle.in_progress.specs.AskLaws.{run-booked}
+use Rattle.open_blocks.specs.AskLaws.{run-booked}
 use Rattle.in_progress.specs.CallerLaws.{part-of, decided-at, copied-is}
-use Rattle.steps.specs.Taking.{Closable, Finishes, FinishesFull, Taking, Takes, TakesThen}
+use Rattle.finishing.specs.Finish.{Closable, Finishes}
+use Rattle.finishing.specs.AnswerLaws.{finished-steps, full-steps}
+use Rattle.steps.specs.Taking.{Taking, Takes, TakesThen}
 
 -- ---- folds that may refuse
 
@@ -198,11 +200,11 @@ module _ {w : World} {b : Batch} {x : Sources} {from n : ℕ} {q : Step} {slots 
   taken-stop {f} o = record { steps = λ w₀ e s. steps-stop f (k .steps w₀ e s) o }
 
   module _ (o : q .number ≡ 0) where
-    pub taken-finished : {r : Step} {slots′ books′ : List ℕ} → Finishes (q .state) slots books r slots′ books′ → TakesThen finished w b x from n r slots′ pool books′
-    taken-finished {r} {slots′} {books′} f = record { steps = λ w₀ e s. steps-next finished (k .steps w₀ e s) o (f .steps pool) }
+    pub taken-finished : {r : Step} {slots′ books′ : List ℕ} → Finishes finished (q .state) slots books r slots′ books′ → TakesThen finished w b x from n r slots′ pool books′
+    taken-finished {r} {slots′} {books′} f = record { steps = λ w₀ e s. steps-next finished (k .steps w₀ e s) o (finished-steps pool f) }
 
-    pub taken-full : {r : Step} {slots′ books′ : List ℕ} → FinishesFull (q .state) slots books r slots′ books′ → TakesThen ifFull w b x from n r slots′ pool books′
-    taken-full {r} {slots′} {books′} f = record { steps = λ w₀ e s. steps-next ifFull (k .steps w₀ e s) o (f .steps pool) }
+    pub taken-full : {r : Step} {slots′ books′ : List ℕ} → Finishes ifFull (q .state) slots books r slots′ books′ → TakesThen ifFull w b x from n r slots′ pool books′
+    taken-full {r} {slots′} {books′} f = record { steps = λ w₀ e s. steps-next ifFull (k .steps w₀ e s) o (full-steps pool f) }
 
     module _ (a : Taking w b x from n) where
       is : partTaken (a .origin) w b from n ≡ ok (world (q .state) slots pool books)

@@ -36,10 +36,12 @@ use Rattle.routes.specs.declared.Sources.{Sources}
 use Rattle.routes.specs.Sourced.{Sourced}
 use Rattle.routes.specs.Route.{routeOf, wholeRefusal}
 use Rattle.routes.specs.RouteLaws.{whole-same, whole-refuses, whole-goes, route-says-whole, route-says-first, route-says-on}
-use Rattle.in_progress.specs.AskLaws.{zeros, length-zeros, run-booked, booked-few, booked-place, booked-books}
-use Rattle.in_progress.specs.CallerLaws.{running-booked}
-use Rattle.steps.specs.Taking.{Closable, Finishes, Cutting, rowsWhole, Columned, LaysColumn, Asks, Wholly, LaysColumns, QueuesWhole, QueuesFirst}
-use Rattle.steps.specs.FinishLaws.{each-more, queued-is}
+use Rattle.open_blocks.specs.AskLaws.{zeros, length-zeros, run-booked, booked-few, booked-place, booked-books}
+use Rattle.open_blocks.specs.AskLaws.{running-booked}
+use Rattle.finishing.specs.Finish.{Closable, Finishes}
+use Rattle.finishing.specs.AnswerLaws.{finished-steps}
+use Rattle.finishing.specs.FinishLaws.{each-more, queued-is}
+use Rattle.steps.specs.Taking.{Cutting, rowsWhole, Columned, LaysColumn, Asks, Wholly, LaysColumns, QueuesWhole, QueuesFirst}
 use Rattle.steps.specs.WholeLaws.{rows-firm, whole-is, moved}
 
 -- ---- one column, in a world
@@ -198,19 +200,19 @@ module _ (s : BatchCoalescer) (slots books : List ℕ) (rows : ℕ) (records bod
 
 -- ---- finish_first
 
-module _ {s : BatchCoalescer} {slots books : List ℕ} {b : Batch} {q : Step} {slots′ books′ : List ℕ} (f : Finishes s slots books q slots′ books′) where
+module _ {s : BatchCoalescer} {slots books : List ℕ} {b : Batch} {q : Step} {slots′ books′ : List ℕ} (f : Finishes finished s slots books q slots′ books′) where
   pub first-stop : (q .number ≡ 0 → ⊥) → QueuesFirst s slots books b q slots′ books′
-  first-stop o = record { steps = λ pool. steps-stop (λ v. queuedWhole v b) (f .steps pool) o }
+  first-stop o = record { steps = λ pool. steps-stop (λ v. queuedWhole v b) (finished-steps pool f) o }
 
   module _ (o : q .number ≡ 0) where
     pub first-done : {r : Step} {slots″ books″ : List ℕ} → QueuesWhole (q .state) slots′ books′ b r slots″ books″ → QueuesFirst s slots books b r slots″ books″
-    first-done k = record { steps = λ pool. steps-next (λ v. queuedWhole v b) (f .steps pool) o (k .steps pool) }
+    first-done k = record { steps = λ pool. steps-next (λ v. queuedWhole v b) (finished-steps pool f) o (k .steps pool) }
 
     pub first-asks : Asks s slots books b → Asks (q .state) slots′ books′ b
     first-asks x =
         let w : World = world s slots (zeros (s .pool .0)) books in
         let v : World = world (q .state) slots′ (zeros (s .pool .0)) books′ in
-        let e : finished (world s slots (zeros (s .pool .0)) books) ≡ ok (world (q .state) slots′ (zeros (s .pool .0)) books′) = f .steps (zeros (s .pool .0)) .done o in
+        let e : finished (world s slots (zeros (s .pool .0)) books) ≡ ok (world (q .state) slots′ (zeros (s .pool .0)) books′) = finished-steps (zeros (s .pool .0)) f .done o in
         let g : Goes (world s slots (zeros (s .pool .0)) books) (world (q .state) slots′ (zeros (s .pool .0)) books′) =
         holds-ok v (finished-goes w (asks-run x) (rows-small (asks-run x) (omega (arith, x .below)))) e in
         let i : Ends (world s slots (zeros (s .pool .0)) books) 0 (world (q .state) slots′ (zeros (s .pool .0)) books′) = holds-ok v (finished-holds w) e in

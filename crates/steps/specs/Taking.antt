@@ -1,52 +1,23 @@
 -- What the steps of a push ask, and what they leave.
 use Prim.Native.Nat.{ℕ, _+_, _≤_, _<_}
 use mathlib.Core.Path.{_≡_}
-use mathlib.Core.Bool.{cond}
 use mathlib.Core.List.{List, []}
 use lib.ListN.{length}
 use Rattle.state.specs.declared.BatchCoalescer.{BatchCoalescer}
 use Rattle.state.specs.World.{World, world}
-use Rattle.state.specs.Layout.{isViews, valuesPlace, slotsLength, listLength}
+use Rattle.state.specs.Layout.{valuesPlace, slotsLength, listLength}
 use Rattle.rules.specs.Batch.{Batch, recordOf}
 use Rattle.rules.specs.Steps.{Res, bind, each}
-use Rattle.rules.specs.Views.{filling, closed, bitsCopied, valuesCopied}
-use Rattle.rules.specs.Push.{finished, columnWhole, queuedWhole, partTaken, ifFull}
+use Rattle.rules.specs.Views.{filling, bitsCopied, valuesCopied}
+use Rattle.rules.specs.Push.{finished, columnWhole, queuedWhole, partTaken}
 use Rattle.rules.specs.Stays.{SameSetUp}
 use Rattle.going.specs.Run.{Run, Readable}
 use Rattle.going.specs.Firm.{Firm}
-use Rattle.going.specs.Along.{Along}
 use Rattle.columns.specs.declared.Step.{Step}
 use Rattle.columns.specs.Step.{Steps}
 use Rattle.routes.specs.declared.Sources.{Sources}
 use Rattle.routes.specs.Sourced.{Sourced}
-use Rattle.in_progress.specs.Part.{Booked}
-
--- ---- finishing
-
--- state and books are in order, beside slots of the right length
-pub record Closable (s : BatchCoalescer) (slots books : List ℕ) : Type 0 where
-  pub booked : Booked s books
-  pub slots-are : length slots ≡ slotsLength s
-
--- the open block of one column joins its list, if it is one of views
-abbrev pub close : World → ℕ → World
-close v c = cond (isViews (v .state) c) (closed v c) v
-
-pub record ClosesOne (s : BatchCoalescer) (slots books : List ℕ) (c : ℕ) (t : BatchCoalescer) (slots′ books′ : List ℕ) : Type 0 where
-  pub is : (pool : List ℕ) → close (world s slots pool books) c ≡ world t slots′ pool books′
-
--- those of the first c columns do
-pub record ClosesAll (s : BatchCoalescer) (slots books : List ℕ) (c : ℕ) (t : BatchCoalescer) (slots′ books′ : List ℕ) : Type 0 where
-  pub is : (pool : List ℕ) → each c close (world s slots pool books) ≡ world t slots′ pool books′
-  pub along : (pool : List ℕ) → length pool ≡ s .pool .0 → Along (world s slots pool books) (world t slots′ pool books′)
-
--- a slot is finished, or is not
-pub record Finishes (s : BatchCoalescer) (slots books : List ℕ) (q : Step) (slots′ books′ : List ℕ) : Type 0 where
-  pub steps : (pool : List ℕ) → Steps (finished (world s slots pool books)) q slots′ pool books′
-
--- the same where it is full
-pub record FinishesFull (s : BatchCoalescer) (slots books : List ℕ) (q : Step) (slots′ books′ : List ℕ) : Type 0 where
-  pub steps : (pool : List ℕ) → Steps (ifFull (world s slots pool books)) q slots′ pool books′
+use Rattle.open_blocks.specs.Open.{Booked}
 
 -- ---- parts
 

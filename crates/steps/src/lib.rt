@@ -4,19 +4,18 @@ ghost use mathlib.Core.Path.{_≡_};
 ghost use Prim.Native.Nat.{_+_, _≤_, _<_};
 ghost use mathlib.Core.List.{[]};
 ghost use lib.ListN.{length};
-ghost use Rattle.tallies.specs.Tally.{withTally};
 ghost use Rattle.state.specs.World.{world, columnOf};
-ghost use Rattle.state.specs.Layout.{valuesPlace, slotsLength, booksLength, tally, nextSlot};
+ghost use Rattle.state.specs.Layout.{valuesPlace, slotsLength};
 ghost use Rattle.layout.specs.Few.{Few};
 ghost use Rattle.rules.specs.Batch.{batch, recordOf};
 ghost use Rattle.rules.specs.declared.Way.{Way};
-ghost use Rattle.rules.specs.Steps.{ok, withCounts};
+ghost use Rattle.rules.specs.Steps.{ok};
 ghost use Rattle.rules.specs.Push.{finished, ifFull, coalesced, stepped};
-ghost use Rattle.columns.specs.Pushing.{Running, Pushing};
+ghost use Rattle.columns.specs.Pushing.{Pushing};
 ghost use Rattle.columns.specs.Step.{Steps};
 ghost use Rattle.routes.specs.Sourced.{Sourced};
 ghost use Rattle.in_progress.specs.Part.{Part, Decided, copiedBy};
-ghost use Rattle.steps.specs.Taking.{Closable, ClosesOne, ClosesAll, Finishes, FinishesFull, Taking, Takes, TakesThen, Cutting, Rowed, LaysRows, Columned, LaysColumn, Wholly, LaysColumns, Asks, QueuesWhole, QueuesFirst};
+ghost use Rattle.steps.specs.Taking.{Taking, Takes, TakesThen, Cutting, Rowed, LaysRows, Columned, LaysColumn, Wholly, LaysColumns, Asks, QueuesWhole, QueuesFirst};
 use byte_view::Source;
 use columns::Step;
 use counts::RowCount;
@@ -26,7 +25,6 @@ use routes::Sources;
 use rules::ColumnRecord;
 use rules::Way;
 use state::BatchCoalescer;
-use tallies::Tally;
 
 // Where the next column of the slot being filled begins.
 fn next_place(s: BatchCoalescer, c: u32, place: usize) -> usize
@@ -136,83 +134,6 @@ fn copy_part(
     }
 }
 
-// The open block of column c joins its list, if it is one of views.
-fn close_one(s: BatchCoalescer, slots: &mut [u8], books: &mut [u8], c: u32) -> BatchCoalescer
-    requires { ⌜ (Closable s (now slots) (now books)) × (c < s .columns) ⌝ }
-    ensures { λ r. ⌜ ClosesOne s (now (slots .entry)) (now (books .entry)) c r (now (slots .exit)) (now (books .exit)) ⌝ }
-{
-    if layout::is_views(s, c) {
-        in_progress::finish_current(s, slots, books, c)
-    } else {
-        s
-    }
-}
-
-// The open block of each column of views joins its list.
-fn close_all(s: BatchCoalescer, slots: &mut [u8], books: &mut [u8]) -> BatchCoalescer
-    requires { ⌜ Closable s (now slots) (now books) ⌝ }
-    ensures { λ r. ⌜ ClosesAll s (now (slots .entry)) (now (books .entry)) (s .columns) r (now (slots .exit)) (now (books .exit)) ⌝ }
-{
-    let mut t = s;
-    let mut c: u32 = 0;
-    while c < s.columns {
-        t = close_one(t, slots, books, c);
-        c += 1;
-    }
-    t
-}
-
-// The slot being filled queued with so many rows.
-fn queue_slot(s: BatchCoalescer, books: &mut [u8], rows: u32) -> BatchCoalescer
-    requires { ⌜ (Few s) × (s .place ≤ s .queue) × (s .queued < s .queue) × (length (now books) ≡ booksLength s) ⌝ }
-    ensures { λ r. ⌜ (r ≡ withCounts s (nextSlot s (s .place)) (s .queued + 1) 0)
-        × (now (books .exit) ≡ withTally (now (books .entry)) (tally s (s .place) 0) rows) ⌝ }
-{
-    let t = Tally {
-        numbers: s.numbers,
-        columns: s.columns,
-        slot: s.place,
-        word: 0,
-    };
-    tallies::put_tally(books, t, rows);
-    routes::next_to_fill(s)
-}
-
-// Finishing, however many rows are buffered.
-fn finish_slot(s: BatchCoalescer, slots: &mut [u8], books: &mut [u8]) -> Step
-    requires { ⌜ Closable s (now slots) (now books) ⌝ }
-    ensures { λ r. ⌜ Finishes s (now (slots .entry)) (now (books .entry)) r (now (slots .exit)) (now (books .exit)) ⌝ }
-{
-    if s.buffered.0 == 0 {
-        Step {
-            state: s,
-            number: 0,
-        }
-    } else {
-        if s.queued < s.queue {
-            let t = close_all(s, slots, books);
-            let u = queue_slot(t, books, s.buffered.0);
-            Step {
-                state: u,
-                number: 0,
-            }
-        } else {
-            Step {
-                state: s,
-                number: 9,
-            }
-        }
-    }
-}
-
-// finish_buffered_batch: nothing with 0 buffered; else each open block joins its list and the slot is queued. 9.
-pub fn finish(s: BatchCoalescer, slots: &mut [u8], books: &mut [u8]) -> Step
-    requires { ⌜ (Running s (now books)) × (length (now slots) ≡ slotsLength s) ⌝ }
-    ensures { λ r. ⌜ Finishes s (now (slots .entry)) (now (books .entry)) r (now (slots .exit)) (now (books .exit)) ⌝ }
-{
-    finish_slot(s, slots, books)
-}
-
 // A part that fills the slot, then finishing.
 fn copy_full(
     s: BatchCoalescer,
@@ -233,24 +154,9 @@ fn copy_full(
     let step = copy_part(s, slots, pool, books, records, body, rows, sources, from, n);
     if step.number == 0 {
         let t = step.state;
-        finish_slot(t, slots, books)
+        finishing::finish(t, slots, books)
     } else {
         step
-    }
-}
-
-// The same where the slot is full.
-fn finish_full(s: BatchCoalescer, slots: &mut [u8], books: &mut [u8]) -> Step
-    requires { ⌜ Closable s (now slots) (now books) ⌝ }
-    ensures { λ r. ⌜ FinishesFull s (now (slots .entry)) (now (books .entry)) r (now (slots .exit)) (now (books .exit)) ⌝ }
-{
-    if s.buffered.0 == s.target.0 {
-        finish_slot(s, slots, books)
-    } else {
-        Step {
-            state: s,
-            number: 0,
-        }
     }
 }
 
@@ -274,7 +180,7 @@ fn copy_last(
     let step = copy_part(s, slots, pool, books, records, body, rows, sources, from, n);
     if step.number == 0 {
         let t = step.state;
-        finish_full(t, slots, books)
+        finishing::finish_full(t, slots, books)
     } else {
         step
     }
@@ -404,7 +310,7 @@ fn queue_whole(
     let number = routes::try_whole(s, books, records);
     if number == 0 {
         copy_columns(s, slots, books, records, body, rows);
-        let t = queue_slot(s, books, rows);
+        let t = finishing::queue_slot(s, books, rows);
         Step {
             state: t,
             number: 0,
@@ -426,7 +332,7 @@ fn finish_first(
     requires { ⌜ Asks s (now slots) (now books) (batch rows (now records) (now body)) ⌝ }
     ensures { λ q. ⌜ QueuesFirst s (now (slots .entry)) (now (books .entry)) (batch rows (now (records .entry)) (now (body .entry))) q (now (slots .exit)) (now (books .exit)) ⌝ }
 {
-    let step = finish_slot(s, slots, books);
+    let step = finishing::finish(s, slots, books);
     if step.number == 0 {
         let t = step.state;
         queue_whole(t, slots, books, records, body, rows)

@@ -7,8 +7,8 @@ use Rattle.steps.proofs.copy_full.Tie as tie
 copy-part-requires : tie.Need-copy-part-requires
 copy-part-requires c κs = search needs
 
-finish-slot-requires : tie.Need-finish-slot-requires
-finish-slot-requires c κs = search (taken-closable, needs)
+finish-requires : tie.Need-finish-requires
+finish-requires c κs = search (taken-closable, needs)
 
 same-length : tie.Need-same-length
 same-length c = search needs
@@ -39,7 +39,7 @@ copy-full-spec =
     tie.close
     (tie.spec
     copy-part-requires
-    finish-slot-requires
+    finish-requires
     same-length
     same-length-2
     same-length-3

@@ -4,8 +4,8 @@ use Rattle.steps.specs.QueueLaws.{asks-closable, first-asks, first-done,
 use Rattle.steps.proofs.finish_first.Statement.{statement}
 use Rattle.steps.proofs.finish_first.Tie as tie
 
-finish-slot-requires : tie.Need-finish-slot-requires
-finish-slot-requires c κs = search (asks-closable, needs)
+finish-requires : tie.Need-finish-requires
+finish-requires c κs = search (asks-closable, needs)
 
 queue-whole-requires : tie.Need-queue-whole-requires
 queue-whole-requires c κs = search (first-asks, needs)
@@ -32,7 +32,7 @@ pub finish-first-spec : {M : Type 1} → statement M
 finish-first-spec =
     tie.close
     (tie.spec
-    finish-slot-requires
+    finish-requires
     queue-whole-requires
     same-length
     same-length-2

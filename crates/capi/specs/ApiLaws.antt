@@ -1,0 +1,268 @@
+-- The C layer's calls: a law for each exit.
+use Prim.Native.Nat.{ℕ, zero, suc}
+use mathlib.Core.Path.{_≡_, refl, sym, _∙_, ap}
+use mathlib.Core.Bool.{Bool, true, false, cond}
+use mathlib.Core.List.{List, []}
+use native.Mathlib.Omega.{arith}
+use native.Mathlib.Decide.{ℕ-discrete}
+use lib.ListN.{length}
+use lib.Dec.{eqb}
+use lib.Seq.{take-length}
+use borrow.Author.Tests.{eq-eqb, ne-eqb, eqb-true}
+use Rattle.words.specs.Run.{put, lay}
+use Rattle.words.specs.WordLaws.{Bytes}
+use Rattle.pool.specs.declared.Registered.{Registered}
+use Rattle.pool.specs.Register.{refusalOf}
+use Rattle.state.specs.declared.BatchCoalescer.{BatchCoalescer}
+use Rattle.state.specs.declared.Limit.{Limit}
+use Rattle.state.specs.declared.RowAnswer.{RowAnswer}
+use Rattle.state.specs.World.{World, world}
+use Rattle.rules.specs.Batch.{Batch}
+use Rattle.rules.specs.Ranges.{tested}
+use Rattle.rules.specs.Steps.{each, counting, withLimit}
+use Rattle.rules.specs.Calls.{Answered, pushCall, finishCall, listDropped, uncounted, dropped, dropCall, registerCall, letGoCall, readRow, rowRefusal, bufferNumberCall, bufferCall, limitOf, bufferedCount, hasCompleted, isEmpty}
+use Rattle.rules.specs.CallLaws.{drop-tested, drop-empty, drop-front}
+use Rattle.rules.specs.RegisterLaws.{register-tested, register-steps, let-go-tested, let-go-steps}
+use Rattle.columns.specs.declared.Step.{Step}
+use Rattle.completed.specs.declared.Dropped.{Dropped}
+use Rattle.completed.specs.Drop.{Drops}
+use Rattle.reads.specs.Reads.{Registers, LetsGo}
+use Rattle.finishing.specs.Finish.{answered}
+use Rattle.codes.specs.declared.Coded.{Coded}
+use Rattle.codes.specs.Code.{codeOf, limitIn, isCoded, stateIn, decoded}
+use Rattle.codes.specs.TakeLaws.{code-state}
+use Rattle.crossing.specs.Cross.{pair, numberIn, limitPair, rowBytes}
+use Rattle.capi.specs.Api.{Memory, memory, said, told, Form, number, both, inForm, Given, given, pushing, finishing, dropping, registering, lettingGo, worldIn, keptAs, Keeps, coded, called}
+use Rattle.capi.specs.Api.{bufferNumber, partIn, bufferRead, rowIn, rowRead, limitSet, limitRead, rowsBuffered, completedFlag, emptyFlag}
+
+-- ---- keep
+
+pub keeps-coded : {s : BatchCoalescer} {b b′ : List ℕ} {n : ℕ} → n ≡ 0 → b′ ≡ codeOf s → Keeps n s b b′ 0
+keeps-coded {s} {b} {b′} {n} z e = record { answer-is = sym z; bytes-are = rw z e }
+
+pub keeps-bytes : {s : BatchCoalescer} {b : List ℕ} {n : ℕ} → (n ≡ 0 → ⊥) → Keeps n s b b n
+keeps-bytes {s} {b} {n} h = record { answer-is = refl; bytes-are = rw (ne-eqb n 0 h) }
+
+-- ---- what decoding says
+
+module _ (b : List ℕ) {d : Coded} (e : d ≡ decoded b) (z : d .number ≡ 0) where
+  zero-is : decoded b .number ≡ 0
+  zero-is = sym (ap (λ (x : Coded). x .number) e) ∙ z
+
+  -- 304 bytes that code its state
+  codes-304 : (x y : Bool) → eqb (length b) 304 ≡ x → isCoded b ≡ y → length b ≡ 304
+  unfolding decoded
+  codes-304 true y p q = eqb-true (length b) 304 p
+  codes-304 false y p q = let r : _≡_ {A = ℕ} 1 0 = rw p at zero-is in absurd (omega arith)
+
+  pub decoded-length : length b ≡ 304
+  decoded-length = codes-304 (eqb (length b) 304) (isCoded b) refl refl
+
+  codes-it : (y : Bool) → isCoded b ≡ y → (isCoded b ≡ true) × (d .state ≡ stateIn b)
+  unfolding decoded
+  codes-it true q = (q, ap (λ (x : Coded). x .state) e ∙ rw (eq-eqb (length b) 304 decoded-length, q))
+  codes-it false q =
+      let r : _≡_ {A = ℕ} 14 0 = rw (eq-eqb (length b) 304 decoded-length, q) at zero-is in absurd (omega arith)
+
+  pub decoded-code : Bytes b → codeOf (d .state) ≡ b
+  decoded-code is =
+      let p = codes-it (isCoded b) refl in
+      ap codeOf (p .1) ∙ code-state b is decoded-length (p .0)
+
+-- ---- calls
+
+module _ (form : Form) (f : World → Given) (b slots pool books : List ℕ) {d : Coded} (e : d ≡ decoded b) where
+  pub call-refused : {r : ℕ} → (d .number ≡ 0 → ⊥) → r ≡ inForm form (d .number) 0 → said r (memory b slots pool books) ≡ called form f (memory b slots pool books)
+  unfolding called
+  call-refused h p = rw (← e, ne-eqb (d .number) 0 h, p)
+
+  pub call-done : {g : Given} → d .number ≡ 0 → f (world (d .state) slots pool books) ≡ g → coded form b g ≡ called form f (memory b slots pool books)
+  unfolding called
+  call-done z p = rw (← e, eq-eqb (d .number) 0 z, p)
+
+-- two calls that give the same of the world that bytes hold
+pub called-same : (form : Form) (f g : World → Given) (m : Memory) → (decoded (m .state) .number ≡ 0 → f (worldIn m) ≡ g (worldIn m)) → called form f m ≡ called form g m
+unfolding called
+called-same form f g m h = go (ℕ-discrete (decoded (m .state) .number) 0)
+  where
+    go : Dec (decoded (m .state) .number ≡ 0) → called form f m ≡ called form g m
+    go (yes z) = rw (eq-eqb (decoded (m .state) .number) 0 z) (ap (coded form (m .state)) (h z))
+    go (no z) = rw (ne-eqb (decoded (m .state) .number) 0 z)
+
+module _ (f : World → Given) (b slots pool books : List ℕ) {d : Coded} (e : d ≡ decoded b) (h : d .number ≡ 0 → ⊥) where
+  pub number-refused : said (d .number) (memory b slots pool books) ≡ called number f (memory b slots pool books)
+  number-refused = call-refused number f b slots pool books e h refl
+
+  pub both-refused : {r : ℕ} → r ≡ pair (d .number) 0 → said r (memory b slots pool books) ≡ called both f (memory b slots pool books)
+  both-refused p = call-refused both f b slots pool books e h p
+
+-- a call that answers a number and keeps the state: push and finish
+kept-call : (f : World → Answered) (g : World → Given) (b slots pool books : List ℕ) {d : Coded} {q : Step} {b′ slots′ pool′ books′ : List ℕ} {r : ℕ} → ((w : World) → g w ≡ given (f w)) → d ≡ decoded b → d .number ≡ 0 → answered q slots′ pool′ books′ ≡ f (world (d .state) slots pool books) → Keeps (q .number) (q .state) b b′ r → said r (memory b′ slots′ pool′ books′) ≡ called number g (memory b slots pool books)
+unfolding coded
+kept-call f g b slots pool books {d} {q} {b′} {slots′} {pool′} {books′} {r} m e z p k =
+    rw (k .answer-is, k .bytes-are)
+    (call-done number g b slots pool books e {g = given (answered q slots′ pool′ books′)} z
+    (m (world (d .state) slots pool books) ∙ ap given (sym p)))
+
+module _ (b slots pool books : List ℕ) {d : Coded} (e : d ≡ decoded b) (z : d .number ≡ 0) where
+  pub finish-said : {q : Step} {b′ slots′ books′ : List ℕ} {r : ℕ} → answered q slots′ pool books′ ≡ finishCall (world (d .state) slots pool books) → Keeps (q .number) (q .state) b b′ r → said r (memory b′ slots′ pool books′) ≡ called number finishing (memory b slots pool books)
+  unfolding finishing
+  finish-said p k = kept-call finishCall finishing b slots pool books (λ w. refl) e z p k
+
+  pub push-said : (x : Batch) {q : Step} {b′ slots′ pool′ books′ : List ℕ} {r : ℕ} → answered q slots′ pool′ books′ ≡ pushCall (world (d .state) slots pool books) x → Keeps (q .number) (q .state) b b′ r → said r (memory b′ slots′ pool′ books′) ≡ called number (pushing x) (memory b slots pool books)
+  unfolding pushing
+  push-said x p k = kept-call (λ w. pushCall w x) (pushing x) b slots pool books (λ w. refl) e z p k
+
+-- ---- next_completed_batch: slots and pool stay
+
+each-same : {A : Type 0} (g : World → A) (n : ℕ) (f : World → ℕ → World) (w : World) → ((v : World) (i : ℕ) → g (f v i) ≡ g v) → g (each n f w) ≡ g w
+unfolding each
+each-same g zero f w h = refl
+each-same g (suc n) f w h = h (each n f w) n ∙ each-same g n f w h
+
+module _ (w : World) where
+  dropped-slots : dropped w .slots ≡ w .slots
+  unfolding dropped uncounted counting listDropped
+  dropped-slots =
+      each-same (λ v. v .slots) _ _ _ (λ v i. refl) ∙ each-same (λ v. v .slots) (w .state .columns) _ w (λ v i. refl)
+
+  dropped-pool : dropped w .pool ≡ w .pool
+  unfolding dropped uncounted counting listDropped
+  dropped-pool =
+      each-same (λ v. v .pool) _ _ _ (λ v i. refl) ∙ each-same (λ v. v .pool) (w .state .columns) _ w (λ v i. refl)
+
+  drop-same : (dropCall w .world .slots ≡ w .slots) × (dropCall w .world .pool ≡ w .pool)
+  drop-same = go (ℕ-discrete (tested w) 0) (ℕ-discrete (w .state .queued) 0)
+    where
+      go : Dec (tested w ≡ 0) → Dec (w .state .queued ≡ 0) → (dropCall w .world .slots ≡ w .slots) × (dropCall w .world .pool ≡ w .pool)
+      go (no p) d = (ap (λ x. x .world .slots) (drop-tested w p), ap (λ x. x .world .pool) (drop-tested w p))
+      go (yes p) (yes q) = (ap (λ x. x .world .slots) (drop-empty w p q), ap (λ x. x .world .pool) (drop-empty w p q))
+      go (yes p) (no q) =
+          (ap (λ x. x .world .slots) (drop-front w p q) ∙ dropped-slots, ap (λ x. x .world .pool) (drop-front w p q) ∙ dropped-pool)
+
+  register-same : (bytes : List ℕ) (capacity : ℕ) → (registerCall w bytes capacity .world .state ≡ w .state) × (registerCall w bytes capacity .world .slots ≡ w .slots)
+  register-same bytes capacity = go (ℕ-discrete (tested w) 0)
+    where
+      go : Dec (tested w ≡ 0) → (registerCall w bytes capacity .world .state ≡ w .state) × (registerCall w bytes capacity .world .slots ≡ w .slots)
+      go (no p) = (ap (λ x. x .world .state) (register-tested w bytes capacity p), ap (λ x. x .world .slots) (register-tested w bytes capacity p))
+      go (yes p) = (ap (λ x. x .world .state) (register-steps w bytes capacity p), ap (λ x. x .world .slots) (register-steps w bytes capacity p))
+
+  let-go-same : (i : ℕ) → letGoCall w i .world ≡ world (w .state) (w .slots) (w .pool) (letGoCall w i .world .books)
+  let-go-same i = go (ℕ-discrete (tested w) 0)
+    where
+      go : Dec (tested w ≡ 0) → letGoCall w i .world ≡ world (w .state) (w .slots) (w .pool) (letGoCall w i .world .books)
+      go (no p) = rw (let-go-tested w i p)
+      go (yes p) = rw (let-go-steps w i p)
+
+-- the bytes of a state that a call does not change, coded again or not
+same-bytes : (b : List ℕ) {s t : BatchCoalescer} (n : ℕ) → t ≡ s → codeOf s ≡ b → keptAs n t b ≡ b
+same-bytes b {s} {t} n e c = go (eqb n 0) refl
+  where
+    go : (x : Bool) → eqb n 0 ≡ x → keptAs n t b ≡ b
+    go true p = rw p (ap codeOf e ∙ c)
+    go false p = rw p
+
+module _ (b : List ℕ) (w : World) where
+  drop-made : {q : Dropped} {b′ books′ : List ℕ} {n r : ℕ} → Drops (dropCall w) books′ q → Keeps (q .number) (q .state) b b′ n → r ≡ pair n (q .rows .0) → said r (memory b′ (w .slots) (w .pool) books′) ≡ coded both b (dropping w)
+  unfolding coded dropping
+  drop-made x k p =
+      rw (p, k .answer-is, k .bytes-are, x .number-is, x .state-is, x .rows-are, x .books-are, drop-same w .0, drop-same w .1)
+
+  register-made : (bytes : List ℕ) (capacity : ℕ) {a : Registered} {pool′ books′ : List ℕ} {r : ℕ} → codeOf (w .state) ≡ b → Registers (registerCall w bytes capacity) pool′ books′ a → r ≡ pair (refusalOf a) (numberIn a) → said r (memory b (w .slots) pool′ books′) ≡ coded both b (registering bytes capacity w)
+  unfolding coded registering
+  register-made bytes capacity {a} {pool′} {books′} {r} c x p =
+      let y : keptAs (refusalOf (registerCall w bytes capacity .answer)) (registerCall w bytes capacity .world .state) b ≡ b = same-bytes b (refusalOf (registerCall w bytes capacity .answer)) (register-same w bytes capacity .0) c in
+      rw (p, x .answer-is, x .pool-is, x .books-are, register-same w bytes capacity .1, y)
+
+  let-go-made : (i : ℕ) {books′ : List ℕ} {r : ℕ} → codeOf (w .state) ≡ b → LetsGo (letGoCall w i) books′ r → said r (memory b (w .slots) (w .pool) books′) ≡ coded number b (lettingGo i w)
+  unfolding coded lettingGo
+  let-go-made i {books′} {r} c x =
+      let y : keptAs (letGoCall w i .number) (letGoCall w i .world .state) b ≡ b = same-bytes b (letGoCall w i .number) (ap (λ (v : World). v .state) (let-go-same w i)) c in
+      rw (x .answer-is, x .books-are, y)
+      (ap (λ (v : World). said (letGoCall w i .number) (memory b (v .slots) (v .pool) (v .books))) (sym (let-go-same w i)))
+
+module _ (b slots pool books : List ℕ) {d : Coded} (e : d ≡ decoded b) (z : d .number ≡ 0) where
+  pub drop-said : {q : Dropped} {b′ books′ : List ℕ} {n r : ℕ} → Drops (dropCall (world (d .state) slots pool books)) books′ q → Keeps (q .number) (q .state) b b′ n → r ≡ pair n (q .rows .0) → said r (memory b′ slots pool books′) ≡ called both dropping (memory b slots pool books)
+  drop-said x k p =
+      drop-made b (world (d .state) slots pool books) x k p ∙ call-done both dropping b slots pool books e z refl
+
+  pub register-said : (bytes : List ℕ) (capacity : ℕ) {a : Registered} {pool′ books′ : List ℕ} {r : ℕ} → Bytes b → Registers (registerCall (world (d .state) slots pool books) bytes capacity) pool′ books′ a → r ≡ pair (refusalOf a) (numberIn a) → said r (memory b slots pool′ books′) ≡ called both (registering bytes capacity) (memory b slots pool books)
+  register-said bytes capacity is x p =
+      register-made b (world (d .state) slots pool books) bytes capacity (decoded-code b e z is) x p
+      ∙ call-done both (registering bytes capacity) b slots pool books e z refl
+
+  pub let-go-said : (i : ℕ) {books′ : List ℕ} {r : ℕ} → Bytes b → LetsGo (letGoCall (world (d .state) slots pool books) i) books′ r → said r (memory b slots pool books′) ≡ called number (lettingGo i) (memory b slots pool books)
+  let-go-said i is x =
+      let-go-made b (world (d .state) slots pool books) i (decoded-code b e z is) x
+      ∙ call-done number (lettingGo i) b slots pool books e z refl
+
+-- ---- reads
+
+module _ (b slots pool books : List ℕ) {d : Coded} (e : d ≡ decoded b) where
+  pub refusal-not : (i : ℕ) → (d .number ≡ 0 → ⊥) → d .number ≡ bufferNumber (memory b slots pool books) i
+  unfolding bufferNumber
+  refusal-not i h = rw (← e, ne-eqb (d .number) 0 h)
+
+  pub refusal-read : (i : ℕ) {r : ℕ} → d .number ≡ 0 → r ≡ bufferNumberCall (world (d .state) slots pool books) i → r ≡ bufferNumber (memory b slots pool books) i
+  unfolding bufferNumber
+  refusal-read i z p = rw (← e, eq-eqb (d .number) 0 z) p
+
+  pub part-not : (i : ℕ) → (d .number ≡ 0 → ⊥) → partIn (memory b slots pool books) i ≡ []
+  unfolding partIn
+  part-not i h = rw (← e, ne-eqb (d .number) 0 h)
+
+  pub part-is : (i : ℕ) → d .number ≡ 0 → partIn (memory b slots pool books) i ≡ bufferCall (world (d .state) slots pool books) i
+  unfolding partIn
+  part-is i z = rw (← e, eq-eqb (d .number) 0 z)
+
+  pub read-not : (i : ℕ) (out : List ℕ) → (d .number ≡ 0 → ⊥) → told 0 out ≡ bufferRead (memory b slots pool books) i out
+  unfolding bufferRead lay put
+  read-not i out h = rw (part-not i h) (ap (told 0) (sym (take-length out)))
+
+  pub read-done : (i : ℕ) (out : List ℕ) {part out′ : List ℕ} → d .number ≡ 0 → part ≡ bufferCall (world (d .state) slots pool books) i → out′ ≡ lay 0 part out → told (length part) out′ ≡ bufferRead (memory b slots pool books) i out
+  unfolding bufferRead
+  read-done i out z p q = rw (q, p, part-is i z)
+
+  pub row-not : (c i : ℕ) → (d .number ≡ 0 → ⊥) → RowAnswer.Refused (d .number) ≡ rowIn (memory b slots pool books) c i
+  unfolding rowIn
+  row-not c i h = rw (← e, ne-eqb (d .number) 0 h)
+
+  pub row-is : (c i : ℕ) {a : RowAnswer} → d .number ≡ 0 → a ≡ readRow (world (d .state) slots pool books) c i → a ≡ rowIn (memory b slots pool books) c i
+  unfolding rowIn
+  row-is c i z p = rw (← e, eq-eqb (d .number) 0 z) p
+
+module _ (m : Memory) (c i : ℕ) (out : List ℕ) where
+  pub row-told : {a : RowAnswer} {r : ℕ} {out′ : List ℕ} → length out ≡ 20 → a ≡ rowIn m c i → r ≡ rowRefusal a → out′ ≡ rowBytes a out → told r out′ ≡ rowRead m c i out
+  unfolding rowRead
+  row-told h p q x = rw (eq-eqb (length out) 20 h, ← p, q, x)
+
+  pub row-one : (length out ≡ 20 → ⊥) → told 1 out ≡ rowRead m c i out
+  unfolding rowRead
+  row-one h = rw (ne-eqb (length out) 20 h)
+
+-- ---- the state alone
+
+module _ (b : List ℕ) {d : Coded} (e : d ≡ decoded b) where
+  pub limit-not : (flag rows : ℕ) → (d .number ≡ 0 → ⊥) → told (d .number) b ≡ limitSet flag rows b
+  unfolding limitSet
+  limit-not flag rows h = rw (← e, ne-eqb (d .number) 0 h)
+
+  pub limit-done : (flag rows : ℕ) {l : Limit} {t : BatchCoalescer} {b′ : List ℕ} {r : ℕ} → d .number ≡ 0 → l ≡ limitIn flag rows → t ≡ withLimit (d .state) l → Keeps 0 t b b′ r → told r b′ ≡ limitSet flag rows b
+  unfolding limitSet
+  limit-done flag rows z p q k = rw (k .answer-is, k .bytes-are, q, p, ← e, eq-eqb (d .number) 0 z)
+
+  pub limit-said : {l : Limit} {r : ℕ} → l ≡ limitOf (d .state) → r ≡ limitPair l → r ≡ limitRead b
+  unfolding limitRead
+  limit-said p q = q ∙ ap limitPair p ∙ ap (λ (x : Coded). limitPair (limitOf (x .state))) e
+
+  pub rows-said : {r : ℕ} → r ≡ bufferedCount (d .state) → r ≡ rowsBuffered b
+  unfolding rowsBuffered
+  rows-said p = p ∙ ap (λ (x : Coded). bufferedCount (x .state)) e
+
+  pub completed-said : {x : Bool} {r : ℕ} → x ≡ hasCompleted (d .state) → r ≡ cond x 1 0 → r ≡ completedFlag b
+  unfolding completedFlag
+  completed-said p q = q ∙ ap (λ (y : Bool). cond y 1 0) p ∙ ap (λ (x : Coded). cond (hasCompleted (x .state)) 1 0) e
+
+  pub empty-said : {x : Bool} {r : ℕ} → x ≡ isEmpty (d .state) → r ≡ cond x 1 0 → r ≡ emptyFlag b
+  unfolding emptyFlag
+  empty-said p q = q ∙ ap (λ (y : Bool). cond y 1 0) p ∙ ap (λ (x : Coded). cond (isEmpty (x .state)) 1 0) e
