@@ -1,0 +1,10 @@
+-- Histories, and what every one of them keeps.
+pub mod Call
+pub mod Law
+pub mod CallLaws
+pub mod History
+pub mod Corollaries
+pub mod Counts
+pub mod Reads
+pub mod Cells
+pub mod Refusals
