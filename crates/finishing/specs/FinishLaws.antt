@@ -5,11 +5,12 @@ use mathlib.Core.Logic.{_≢_}
 use mathlib.Core.Bool.{Bool, true, false}
 use mathlib.Core.List.{List}
 use native.Mathlib.Omega.{arith}
-use lib.ListN.{length}
+use lib.ListN.{length, getD}
+use Rattle.kinds.specs.Kind.{isView}
 use Rattle.search.specs.Cases.{by-cond}
 use Rattle.tallies.specs.Tally.{withTally}
 use Rattle.state.specs.declared.BatchCoalescer.{BatchCoalescer}
-use Rattle.state.specs.World.{World, world}
+use Rattle.state.specs.World.{World, world, columnOf, noColumn}
 use Rattle.state.specs.Layout.{isViews, slotsLength, booksLength, tally, nextSlot}
 use Rattle.layout.specs.Few.{Few}
 use Rattle.rules.specs.Steps.{ok, each, withCounts, counting, queueing}
@@ -102,6 +103,11 @@ module _ {s : BatchCoalescer} {slots books : List ℕ} (x : Closable s slots boo
       where
         next : (pool : List ℕ) → Along (world s slots pool books) (world t slots′ pool books′) → Along (world t slots′ pool books′) (world u slots″ pool books″)
         next pool b = moved (o .is pool) (close-along (world t slots′ pool books′) c (b .goes .run) (along-in (b .beside) c h))
+
+    -- a column that is not of views: what the loop looks at is the kind that set-up fixed
+    pub closes-plain : {v : Bool} → c < s .columns → v ≡ isView (getD (s .column) c noColumn .kind) → v ≡ false → ClosesAll s slots books (c + 1) t slots′ books′
+    unfolding isViews columnOf
+    closes-plain h p y = closes-more h (one-other (p ∙ ap isView (sym (a .beside .set-up .kind c))) y)
 
     -- what queue_slot asks
     pub finish-asks : s .queued < s .queue → (Few t) × (t .place ≤ t .queue) × (t .queued < t .queue) × (length books′ ≡ booksLength t)

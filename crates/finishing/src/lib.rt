@@ -33,8 +33,13 @@ fn close_all(s: BatchCoalescer, slots: &mut [u8], books: &mut [u8]) -> BatchCoal
     let mut t = s;
     let mut c: u32 = 0;
     while c < s.columns {
-        t = close_one(t, slots, books, c);
+        let at = c as usize;
+        let column = s.column[at];
+        let here = c;
         c += 1;
+        if kinds::is_view(column.kind) {
+            t = close_one(t, slots, books, here);
+        }
     }
     t
 }
