@@ -1,14 +1,10 @@
-use native.Mathlib.Omega.{arith}
+-- `table::take_batches` meets its contract.
 use borrow.Author.Needs.{needs}
 use lib.ListN.{length}
 use mathlib.Core.Path.{_≡_}
 use Prim.Native.Nat.{_≤_, _-_}
-use Rattle.court.proofs.take_batches.Statement.{statement}
-use Rattle.court.proofs.take_batches.Tie as tie
-use Rattle.court.proofs.take_batches.Reads as reads
-use Rattle.court.proofs.take_batches.Lts as lts
-use Rattle.capi.proofs.pw_has_completed_batch.Reads as pw-has-completed-batch-reads
-use Rattle.court.proofs.take_batch.Reads as take-batch-reads
+use Rattle.table.proofs.take_batches.Statement.{statement}
+use Rattle.table.proofs.take_batches.Tie as tie
 
 abbrev Inv-loop : tie.InvT-loop
 Inv-loop state₀ slots pool books₀ k₀ state books k = (k ≤ 1024) × (length state ≡ length state₀) × (length books ≡ length books₀)
@@ -16,51 +12,39 @@ Inv-loop state₀ slots pool books₀ k₀ state books k = (k ≤ 1024) × (leng
 abbrev μ-loop : tie.MeasureT-loop
 μ-loop state₀ slots pool books₀ k₀ state books k = 1024 - k
 
--- src/main.rt:181:5
 loop-holds : tie.Need-loop-holds Inv-loop μ-loop
 loop-holds c = search needs
 
--- src/main.rt:182:12
 pw-has-completed-batch-requires : tie.Need-pw-has-completed-batch-requires Inv-loop μ-loop
 pw-has-completed-batch-requires c κs = search needs
 
--- src/main.rt:183:13
 same-length : tie.Need-same-length Inv-loop μ-loop
 same-length c = search needs
 
--- src/main.rt:183:13
 same-length-2 : tie.Need-same-length-2 Inv-loop μ-loop
 same-length-2 c = search needs
 
--- src/main.rt:183:13
 returns : tie.Need-returns Inv-loop μ-loop
 returns c = search needs
 
--- src/main.rt:185:9
 take-batch-requires : tie.Need-take-batch-requires Inv-loop μ-loop
 take-batch-requires c κs = search needs
 
--- src/main.rt:186:9
 add-k : tie.Need-add-k Inv-loop μ-loop
 add-k c = search needs
 
--- src/main.rt:181:5
 loop-less : tie.Need-loop-less Inv-loop μ-loop
 loop-less c = search needs
 
--- src/main.rt:181:5
 loop-again : tie.Need-loop-again Inv-loop μ-loop
 loop-again c = search needs
 
--- src/main.rt:179:1
 same-length-3 : tie.Need-same-length-3 Inv-loop μ-loop
 same-length-3 c = search needs
 
--- src/main.rt:179:1
 same-length-4 : tie.Need-same-length-4 Inv-loop μ-loop
 same-length-4 c = search needs
 
--- src/main.rt:179:1
 returns-2 : tie.Need-returns-2 Inv-loop μ-loop
 returns-2 c = search needs
 

@@ -1,11 +1,8 @@
-use native.Mathlib.Omega.{arith}
+-- `table::show_rows` meets its contract.
 use borrow.Author.Needs.{needs}
 use Prim.Native.Nat.{_≤_, _-_}
-use Rattle.court.proofs.show_rows.Statement.{statement}
-use Rattle.court.proofs.show_rows.Tie as tie
-use Rattle.court.proofs.show_rows.Reads as reads
-use Rattle.court.proofs.show_rows.Lts as lts
-use Rattle.court.proofs.show_row.Reads as show-row-reads
+use Rattle.table.proofs.show_rows.Statement.{statement}
+use Rattle.table.proofs.show_rows.Tie as tie
 
 abbrev Inv-loop : tie.InvT-loop
 Inv-loop state slots pool books i₀ i = i ≤ 65536
@@ -13,31 +10,24 @@ Inv-loop state slots pool books i₀ i = i ≤ 65536
 abbrev μ-loop : tie.MeasureT-loop
 μ-loop state slots pool books i₀ i = 65536 - i
 
--- src/main.rt:170:5
 loop-holds : tie.Need-loop-holds Inv-loop μ-loop
 loop-holds c = search needs
 
--- src/main.rt:171:12
 show-row-requires : tie.Need-show-row-requires Inv-loop μ-loop
 show-row-requires c κs = search needs
 
--- src/main.rt:172:13
 returns : tie.Need-returns Inv-loop μ-loop
 returns c = search needs
 
--- src/main.rt:174:9
 add-i : tie.Need-add-i Inv-loop μ-loop
 add-i c = search needs
 
--- src/main.rt:170:5
 loop-less : tie.Need-loop-less Inv-loop μ-loop
 loop-less c = search needs
 
--- src/main.rt:170:5
 loop-again : tie.Need-loop-again Inv-loop μ-loop
 loop-again c = search needs
 
--- src/main.rt:168:1
 returns-2 : tie.Need-returns-2 Inv-loop μ-loop
 returns-2 c = search needs
 

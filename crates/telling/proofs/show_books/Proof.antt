@@ -1,8 +1,8 @@
--- `player::show_books` meets its contract.
+-- `telling::show_books` meets its contract.
 use Prim.Native.Nat.{_≤_, _<_, _-_, _^_}
 use borrow.Author.Needs.{needs}
-use Rattle.player.proofs.show_books.Statement.{statement}
-use Rattle.player.proofs.show_books.Tie as tie
+use Rattle.telling.proofs.show_books.Statement.{statement}
+use Rattle.telling.proofs.show_books.Tie as tie
 
 abbrev Inv-loop : tie.InvT-loop
 Inv-loop books used i₀ i = (i ≤ used) × (used < 2 ^ 32)

@@ -1,16 +1,16 @@
--- `edges::play` meets its contract.
+-- `player::play_calls` meets its contract.
 use Prim.Native.Nat.{_≤_, _-_}
 use mathlib.Core.Path.{_≡_}
 use lib.ListN.{length}
 use borrow.Author.Needs.{needs}
-use Rattle.edges.proofs.play.Statement.{statement}
-use Rattle.edges.proofs.play.Tie as tie
+use Rattle.player.proofs.play_calls.Statement.{statement}
+use Rattle.player.proofs.play_calls.Tie as tie
 
 abbrev Inv-loop : tie.InvT-loop
-Inv-loop state₀ slots₀ pool₀ books₀ first₀ second₀ lent₀ turns₀ state slots pool books first second lent turns = (turns ≤ 100000) × (length state ≡ length state₀) × (length slots ≡ length slots₀) × (length pool ≡ length pool₀) × (length books ≡ length books₀) × (length first ≡ length first₀) × (length second ≡ length second₀)
+Inv-loop job state₀ slots₀ pool₀ books₀ first₀ second₀ lent₀ turns₀ state slots pool books first second lent turns = (turns ≤ 100000) × (length state ≡ length state₀) × (length slots ≡ length slots₀) × (length pool ≡ length pool₀) × (length books ≡ length books₀) × (length first ≡ length first₀) × (length second ≡ length second₀)
 
 abbrev μ-loop : tie.MeasureT-loop
-μ-loop state₀ slots₀ pool₀ books₀ first₀ second₀ lent₀ turns₀ state slots pool books first second lent turns = 100000 - turns
+μ-loop job state₀ slots₀ pool₀ books₀ first₀ second₀ lent₀ turns₀ state slots pool books first second lent turns = 100000 - turns
 
 loop-holds : tie.Need-loop-holds Inv-loop μ-loop
 loop-holds c = search needs
@@ -75,8 +75,8 @@ same-length-12 c = search needs
 returns-2 : tie.Need-returns-2 Inv-loop μ-loop
 returns-2 c = search needs
 
-pub play-spec : {M : Type 1} → statement M
-play-spec =
+pub play-calls-spec : {M : Type 1} → statement M
+play-calls-spec =
     tie.close
     (tie.spec
     Inv-loop

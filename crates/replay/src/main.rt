@@ -1,0 +1,15 @@
+// Histories whose answers the Rust text was seen to give: plays the capture on standard input and prints what every call answers, and every
+// row of each batch that is read.
+use player::Job;
+
+fn new_pool() -> [u8; 300000] {
+    [0; 300000]
+}
+
+fn main() {
+    let mut slots = io::large_buffer();
+    let mut pool = new_pool();
+    let mut books = io::large_buffer();
+    let mut second = io::large_buffer();
+    player::play(Job::Batches, &mut slots, &mut pool, &mut books, &mut second);
+}
