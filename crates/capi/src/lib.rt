@@ -290,7 +290,7 @@ pub extern "C" fn pw_set_biggest_coalesce_batch_size(state: &mut [u8], set: u32,
     if coded.number == 0 {
         let s = coded.state;
         let limit = codes::limit_of(set, rows);
-        let t = reads::set_biggest_coalesce_batch_size(s, limit);
+        let t = queries::set_biggest_coalesce_batch_size(s, limit);
         keep(state, 0, t)
     } else {
         coded.number
@@ -304,7 +304,7 @@ pub extern "C" fn pw_biggest_coalesce_batch_size(state: &[u8]) -> u64
 {
     let coded = codes::decode(state);
     let s = coded.state;
-    crossing::limit_pair(reads::biggest_coalesce_batch_size(s))
+    crossing::limit_pair(queries::biggest_coalesce_batch_size(s))
 }
 
 // The rows buffered.
@@ -314,7 +314,7 @@ pub extern "C" fn pw_get_buffered_rows(state: &[u8]) -> u32
 {
     let coded = codes::decode(state);
     let s = coded.state;
-    reads::get_buffered_rows(s).0
+    queries::get_buffered_rows(s).0
 }
 
 // 1 where a batch is queued, else 0.
@@ -324,7 +324,7 @@ pub extern "C" fn pw_has_completed_batch(state: &[u8]) -> u32
 {
     let coded = codes::decode(state);
     let s = coded.state;
-    crossing::flag(reads::has_completed_batch(s))
+    crossing::flag(queries::has_completed_batch(s))
 }
 
 // 1 where nothing is buffered or queued, else 0.
@@ -334,5 +334,5 @@ pub extern "C" fn pw_is_empty(state: &[u8]) -> u32
 {
     let coded = codes::decode(state);
     let s = coded.state;
-    crossing::flag(reads::is_empty(s))
+    crossing::flag(queries::is_empty(s))
 }

@@ -24,7 +24,7 @@ use Rattle.state.specs.LayoutLaws.{bits-fit, views-width}
 use Rattle.layout.specs.PlaceLaws.{bitmap-below, cell-below}
 use Rattle.state.specs.Rows.{listedAt}
 use Rattle.rules.specs.Ranges.{tested}
-use Rattle.rules.specs.Calls.{viewAnswer, valueAnswer, isRow, readRow, bufferNumberCall, bufferCall, registerCall, letGoCall, limitOf, bufferedCount, hasCompleted, isEmpty}
+use Rattle.rules.specs.Calls.{viewAnswer, valueAnswer, isRow, readRow, bufferNumberCall, bufferCall, registerCall, letGoCall}
 use Rattle.ranges.specs.Passed.{Passed, passed-slots}
 use Rattle.reads.specs.Reads.{rowAnswer, frontRow, Registers, LetsGo}
 
@@ -157,26 +157,3 @@ module _ (s : BatchCoalescer) (slots books : List ℕ) (slot c at : ℕ) {v : Vi
     pub view-listed : {place k : ℕ} → v .index < n → place ≡ listPlace s slot c → k ≡ word32 slots (place + 4 * v .index) → RowAnswer.Value (Place.InBuffer (record { 0 = k }) (v .offset) (record { 0 = v .length })) ≡ viewAnswer (world s slots [] books) slot c at (viewOf slots at)
     unfolding viewAnswer listedAt
     view-listed l t u = rw (← p, lt-leb (v .length) 12 h, ← same-length, lt-ltb (v .index) n l, ← t, ← u)
-
--- ---- the calls on the state alone
-
-module _ (s : BatchCoalescer) where
-  pub limit-is : s .limit ≡ limitOf s
-  unfolding limitOf
-  limit-is = refl
-
-  pub buffered-is : s .buffered .0 ≡ bufferedCount s
-  unfolding bufferedCount
-  buffered-is = refl
-
-  pub completed-is : ltb 0 (s .queued) ≡ hasCompleted s
-  unfolding hasCompleted
-  completed-is = refl
-
-  pub empty-none : s .buffered .0 ≡ 0 → eqb (s .queued) 0 ≡ isEmpty s
-  unfolding isEmpty
-  empty-none z = rw z
-
-  pub empty-some : (s .buffered .0 ≡ 0 → ⊥) → false ≡ isEmpty s
-  unfolding isEmpty
-  empty-some h = rw (ne-eqb (s .buffered .0) 0 h)

@@ -1,6 +1,4 @@
-// The calls that change no slot: rows and buffers read, buffers registered and let go, the limit, the counts.
-// From arrow-select 60.0.0, src/coalesce.rs: `biggest_coalesce_batch_size` and its setter, `get_buffered_rows`, `has_completed_batch`, `is_empty`; the
-// others are added by the port.
+// The calls that change no slot and look at memory: rows and buffers read, buffers registered and let go. Added by the port.
 ghost use mathlib.Core.Bool.{true};
 ghost use mathlib.Core.Path.{_≡_};
 ghost use mathlib.Core.List.{[]};
@@ -11,16 +9,13 @@ ghost use Rattle.state.specs.World.{world};
 ghost use Rattle.state.specs.Layout.{isViews};
 ghost use Rattle.rules.specs.Batch.{batch};
 ghost use Rattle.rules.specs.Ranges.{tested};
-ghost use Rattle.rules.specs.Steps.{withLimit};
-ghost use Rattle.rules.specs.Calls.{registerCall, letGoCall, bufferNumberCall, bufferCall, viewAnswer, valueAnswer, readRow, limitOf, bufferedCount, hasCompleted, isEmpty};
+ghost use Rattle.rules.specs.Calls.{registerCall, letGoCall, bufferNumberCall, bufferCall, viewAnswer, valueAnswer, readRow};
 ghost use Rattle.ranges.specs.Passed.{Passed};
 ghost use Rattle.reads.specs.Reads.{rowAnswer, frontRow, Registers, LetsGo};
 use counts::BufferNumber;
 use counts::ByteCount;
-use counts::RowCount;
 use pool::Registered;
 use state::BatchCoalescer;
-use state::Limit;
 use state::Place;
 use state::RowAnswer;
 
@@ -192,56 +187,5 @@ pub fn read_row(
         front_row(s, slots, books, c, i)
     } else {
         RowAnswer::Refused(number)
-    }
-}
-
-// biggest_coalesce_batch_size, and its setter.
-pub fn biggest_coalesce_batch_size(s: BatchCoalescer) -> Limit
-    ensures { λ r. ⌜ r ≡ limitOf s ⌝ }
-{
-    let limit = s.limit;
-    limit
-}
-
-pub fn set_biggest_coalesce_batch_size(s: BatchCoalescer, limit: Limit) -> BatchCoalescer
-    ensures { λ r. ⌜ r ≡ withLimit s limit ⌝ }
-{
-    let column = s.column;
-    BatchCoalescer {
-        target: RowCount(s.target.0),
-        rows: RowCount(s.rows.0),
-        queue: s.queue,
-        columns: s.columns,
-        lists: s.lists,
-        numbers: s.numbers,
-        pool: ByteCount(s.pool.0),
-        limit,
-        place: s.place,
-        queued: s.queued,
-        buffered: RowCount(s.buffered.0),
-        column,
-    }
-}
-
-// get_buffered_rows, has_completed_batch, is_empty.
-pub fn get_buffered_rows(s: BatchCoalescer) -> RowCount
-    ensures { λ r. ⌜ r .0 ≡ bufferedCount s ⌝ }
-{
-    RowCount(s.buffered.0)
-}
-
-pub fn has_completed_batch(s: BatchCoalescer) -> bool
-    ensures { λ r. ⌜ r ≡ hasCompleted s ⌝ }
-{
-    0 < s.queued
-}
-
-pub fn is_empty(s: BatchCoalescer) -> bool
-    ensures { λ r. ⌜ r ≡ isEmpty s ⌝ }
-{
-    if s.buffered.0 == 0 {
-        s.queued == 0
-    } else {
-        false
     }
 }

@@ -1,8 +1,8 @@
--- `reads::is_empty` meets its contract.
+-- `queries::is_empty` meets its contract.
 use borrow.Author.Needs.{needs}
-use Rattle.reads.specs.ReadLaws.{empty-none, empty-some}
-use Rattle.reads.proofs.is_empty.Statement.{statement}
-use Rattle.reads.proofs.is_empty.Tie as tie
+use Rattle.queries.specs.QueryLaws.{empty-none, empty-some}
+use Rattle.queries.proofs.is_empty.Statement.{statement}
+use Rattle.queries.proofs.is_empty.Tie as tie
 
 returns : tie.Need-returns
 returns c = search (empty-none, needs)
