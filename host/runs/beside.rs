@@ -34,7 +34,8 @@ pub struct Beside {
     steps: Vec<Step>,
     queue: VecDeque<Taken>,
     buffers: HashMap<u32, JudgeBuffer>,
-    lent: HashMap<usize, usize>,
+    /// every buffer that was registered, by the place of its bytes: kept, so that no block of the Rust comes to lie there
+    lent: HashMap<usize, JudgeBuffer>,
     kept: Vec<usize>,
     pub trace: Trace,
 }
@@ -61,7 +62,7 @@ impl Beside {
             Ok(number) => {
                 self.trace.register(&bytes, capacity);
                 let buffer = JudgeBuffer::new(&bytes, capacity);
-                self.lent.insert(buffer.bytes().as_ptr() as usize, capacity);
+                self.lent.insert(buffer.bytes().as_ptr() as usize, buffer.clone());
                 self.buffers.insert(number, buffer);
                 self.held.push(Held { number, bytes });
                 Some(number)
@@ -279,7 +280,7 @@ fn same_validity(bitmap: &[u8], rows: usize, bits: Option<&[bool]>) {
 }
 
 /// The kept size of a column is that of the last block it asked for, and at most 1 MiB. What was not lent is a block.
-fn note_blocks(kept: &mut [usize], taken: &Taken, lent: &HashMap<usize, usize>) {
+fn note_blocks(kept: &mut [usize], taken: &Taken, lent: &HashMap<usize, JudgeBuffer>) {
     for (kept, column) in kept.iter_mut().zip(&taken.columns) {
         for buffer in &column.buffers {
             if !lent.contains_key(&(buffer.bytes().as_ptr() as usize)) {
