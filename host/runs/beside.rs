@@ -175,6 +175,7 @@ impl Beside {
             assert_eq!(reader.rows_in(slot), taken.rows, "rows of batch {k}");
             same_columns(&reader, slot, taken, false);
         }
+        check_books(&reader);
         self.check_buffered(&reader);
         tally.checks += 1;
     }
@@ -288,4 +289,28 @@ fn note_blocks(kept: &mut [usize], taken: &Taken, lent: &HashMap<usize, JudgeBuf
             }
         }
     }
+}
+
+/// The books: a buffer has as many listings as stand in lists and open blocks; one that nobody holds or lists is zero; no two share a byte.
+fn check_books(reader: &Reader) {
+    let mut listings = vec![0; reader.numbers()];
+    let slots = (0..reader.queued()).map(|k| reader.queued_slot(k)).chain([reader.place()]);
+    for slot in slots {
+        for c in 0..reader.kinds().len() {
+            reader.list(slot, c).iter().for_each(|number| listings[*number as usize] += 1);
+        }
+    }
+    (0..reader.kinds().len()).filter_map(|c| reader.open_block(c)).for_each(|number| listings[number as usize] += 1);
+    let mut taken: Vec<(usize, usize)> = Vec::new();
+    for (number, listed) in listings.into_iter().enumerate() {
+        let entry = reader.entry(number as u32);
+        assert_eq!(entry.listings, listed, "listings of buffer {number}");
+        if entry.hold == 0 && listed == 0 {
+            assert_eq!((entry.start, entry.capacity, entry.length), (0, 0, 0), "the entry of free number {number}");
+        } else if entry.capacity > 0 {
+            taken.push((entry.start, entry.start + entry.capacity));
+        }
+    }
+    taken.sort();
+    assert!(taken.windows(2).all(|pair| pair[0].1 <= pair[1].0), "two buffers share a byte of the pool");
 }

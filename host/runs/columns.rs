@@ -113,14 +113,15 @@ pub fn edge(rng: &mut Rng, kind: Kind, n: usize, sum: usize) -> (Made, Wanted) {
     (Made { kind, values, validity: validity(rng, n), list: vec![0] }, Wanted { bytes, capacity })
 }
 
-/// How many bytes an edge is about: what is left of the open block, one more or less, or any.
+/// How many bytes an edge is about: what is left of the open block, one more or less; that and more than the next block would have; or any.
 pub fn edge_sum(rng: &mut Rng, reader: &Reader, c: usize) -> usize {
     if let Some(number) = reader.open_block(c)
         && rng.below(3) > 0
     {
         let entry = reader.entry(number);
         let rest = entry.capacity - entry.length;
-        return (rest + rng.below(3)).saturating_sub(1).max(13);
+        let more = if rng.one_in(3) { 2 * reader.kept(c) } else { 0 };
+        return (rest + more + rng.below(3)).saturating_sub(1).max(13);
     }
     match rng.below(8) {
         0 => rng.within(8_190, 8_194),

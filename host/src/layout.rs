@@ -142,6 +142,11 @@ impl<'a> Reader<'a> {
         (0..self.count(slot, c + 1)).map(|i| word(&self.memory.slots, at + 4 * i)).collect()
     }
 
+    /// N.
+    pub fn numbers(&self) -> usize {
+        self.numbers
+    }
+
     pub fn kinds(&self) -> &[Kind] {
         &self.kinds
     }
