@@ -37,7 +37,7 @@ pub record Opens (s : BatchCoalescer) (c k : ℕ) : Type 0 where
   pub views : isViews s c ≡ true
   pub block : columnOf s c .block ≡ OpenBlock.Number (record { 0 = k })
 
--- an open block is a buffer in use, and no two columns have the same. Every history leaves them so
+-- an open block is a buffer in use, and no two columns have the same. Every history leaves them so: `between-orderly`, in crates/promise
 pub record Apart (s : BatchCoalescer) (books : List ℕ) : Type 0 where
   pub live : (c k : ℕ) → Opens s c k → isFree (entryOf books k) ≡ false
   pub apart : (c d k : ℕ) → Opens s c k → Opens s d k → c ≡ d

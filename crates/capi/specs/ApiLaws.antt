@@ -131,7 +131,7 @@ module _ (w : World) where
   dropped-pool =
       each-same (λ v. v .pool) _ _ _ (λ v i. refl) ∙ each-same (λ v. v .pool) (w .state .columns) _ w (λ v i. refl)
 
-  drop-same : (dropCall w .world .slots ≡ w .slots) × (dropCall w .world .pool ≡ w .pool)
+  pub drop-same : (dropCall w .world .slots ≡ w .slots) × (dropCall w .world .pool ≡ w .pool)
   drop-same = go (ℕ-discrete (tested w) 0) (ℕ-discrete (w .state .queued) 0)
     where
       go : Dec (tested w ≡ 0) → Dec (w .state .queued ≡ 0) → (dropCall w .world .slots ≡ w .slots) × (dropCall w .world .pool ≡ w .pool)
@@ -140,14 +140,14 @@ module _ (w : World) where
       go (yes p) (no q) =
           (ap (λ x. x .world .slots) (drop-front w p q) ∙ dropped-slots, ap (λ x. x .world .pool) (drop-front w p q) ∙ dropped-pool)
 
-  register-same : (bytes : List ℕ) (capacity : ℕ) → (registerCall w bytes capacity .world .state ≡ w .state) × (registerCall w bytes capacity .world .slots ≡ w .slots)
+  pub register-same : (bytes : List ℕ) (capacity : ℕ) → (registerCall w bytes capacity .world .state ≡ w .state) × (registerCall w bytes capacity .world .slots ≡ w .slots)
   register-same bytes capacity = go (ℕ-discrete (tested w) 0)
     where
       go : Dec (tested w ≡ 0) → (registerCall w bytes capacity .world .state ≡ w .state) × (registerCall w bytes capacity .world .slots ≡ w .slots)
       go (no p) = (ap (λ x. x .world .state) (register-tested w bytes capacity p), ap (λ x. x .world .slots) (register-tested w bytes capacity p))
       go (yes p) = (ap (λ x. x .world .state) (register-steps w bytes capacity p), ap (λ x. x .world .slots) (register-steps w bytes capacity p))
 
-  let-go-same : (i : ℕ) → letGoCall w i .world ≡ world (w .state) (w .slots) (w .pool) (letGoCall w i .world .books)
+  pub let-go-same : (i : ℕ) → letGoCall w i .world ≡ world (w .state) (w .slots) (w .pool) (letGoCall w i .world .books)
   let-go-same i = go (ℕ-discrete (tested w) 0)
     where
       go : Dec (tested w ≡ 0) → letGoCall w i .world ≡ world (w .state) (w .slots) (w .pool) (letGoCall w i .world .books)

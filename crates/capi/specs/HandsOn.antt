@@ -59,7 +59,7 @@ hands-exact {m} {x} {r} {m′} p h =
     p .is
     ∙ called-same number (making (answered (p .step) (m′ .slots) (m′ .pool) (m′ .books))) (pushing x) m (λ z. ap given (h z))
 
--- so in every state that a history leaves
+-- so in every state that a history leaves: `holds-push`, in crates/promise
 pub hands-orderly : {m : Memory} {x : Batch} {r : ℕ} {m′ : Memory} → HandsOn m x r m′ → (decoded (m .state) .number ≡ 0 → Orderly (worldIn m)) → said r m′ ≡ called number (pushing x) m
 hands-orderly p h = hands-exact p (λ z. p .promised z .exact (h z))
 

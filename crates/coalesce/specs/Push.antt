@@ -57,7 +57,8 @@ pub record Judged (x : Verdict) (w : World) (r : Step) (slots′ pool′ books�
   pub nothing : x ≡ Verdict.Nothing → Unchanged w 0 r slots′ pool′ books′
   pub refused : (n : ℕ) → x ≡ Verdict.Refused n → Unchanged w n r slots′ pool′ books′
 
--- what every history leaves, and 14 does not test: free entries are zero, and an open block is a buffer in use, another for each column
+-- what every history leaves (`between-orderly`, in crates/promise), and 14 does not test: free entries are zero, and an open block is a buffer in use,
+-- another for each column
 pub record Orderly (w : World) : Type 0 where
   pub tidy : Tidy (w .books) (w .state .numbers)
   pub apart : Apart (w .state) (w .books)

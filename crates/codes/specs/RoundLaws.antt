@@ -266,3 +266,42 @@ state-words b is =
       sixteen = length-columnsIn b 16;
       column-fits = λ c h. rw (getD-columnsIn b 16 c h) (column-words b c is);
     }
+
+-- and so has a state of 16 columns whose code is of bytes, as what stands in a slice of the machine is: the last byte of a greater number is none
+word-fits : (ws : List ℕ) (k : ℕ) → Bytes (bytesOf ws) → getD ws k 0 < 2 ^ 32
+unfolding bytesOf
+word-fits [] k is = omega arith
+word-fits (w ∷ ws) zero is = omega (arith, is .byte 3)
+word-fits (w ∷ ws) (suc k) is =
+    word-fits ws k (record { byte = λ i. omega (arith, is .byte (4 + i), byte-behind (w % 256) (w / 256 % 256) (w / 65536 % 256) (w / 16777216) (bytesOf ws) (4 + i) i refl) })
+
+code-fits : (s : BatchCoalescer) (k : ℕ) → Bytes (codeOf s) → getD (wordsOf s) k 0 < 2 ^ 32
+unfolding codeOf
+code-fits s k is = word-fits (wordsOf s) k is
+
+code-column-fits : (s : BatchCoalescer) (c j v : ℕ) → c < 16 → j < 4 → Bytes (codeOf s) → getD (columnWords (columnOf s c)) j 0 ≡ v → v < 2 ^ 32
+code-column-fits s c j v h k is e = omega (arith, code-fits s (12 + (4 * c + j)) is, words-column s c j h k, e)
+
+pub code-words : (s : BatchCoalescer) → length (s .column) ≡ 16 → Bytes (codeOf s) → Words s
+unfolding wordsOf setUpWords limitWords countWords columnWords blockWords
+code-words s n is =
+    record {
+      target-fits = code-fits s 0 is;
+      rows-fits = code-fits s 1 is;
+      queue-fits = code-fits s 2 is;
+      columns-fits = code-fits s 3 is;
+      lists-fits = code-fits s 4 is;
+      numbers-fits = code-fits s 5 is;
+      pool-fits = code-fits s 6 is;
+      limit-fits = code-fits s 8 is;
+      place-fits = code-fits s 9 is;
+      queued-fits = code-fits s 10 is;
+      buffered-fits = code-fits s 11 is;
+      sixteen = n;
+      column-fits = λ c h.
+          record {
+            kind-fits = code-column-fits s c 0 (columnOf s c .kind) h (omega arith) is refl;
+            current-fits = code-column-fits s c 1 (columnOf s c .source .current .0) h (omega arith) is refl;
+            block-fits = code-column-fits s c 3 (blockNumber (columnOf s c .block)) h (omega arith) is refl;
+          };
+    }

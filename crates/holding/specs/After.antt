@@ -17,6 +17,7 @@ use Rattle.sound.specs.SoundLaws.{sound-recount}
 use Rattle.holding.specs.Holding.{reach, numberAt, listings, rowsAt, Holding}
 use Rattle.holding.specs.BeginLaws.{begins-refl}
 use Rattle.holding.specs.CountLaws.{times-same, listings-same, number-live}
+use Rattle.holding.specs.AloneLaws.{alone-counts}
 use Rattle.holding.specs.Moves.{Moves}
 use Rattle.holding.specs.MoveLaws.{Alike, Remains, remains-shows, remains-holding, rows-other, queued-slot-same}
 use Rattle.holding.specs.RowLaws.{joined-append, rows-read, batches-read}
@@ -106,6 +107,8 @@ module _ (w : World) (n : ℕ) where
         sound = sound-recount (listings (buffering w n)) (a .sound) (λ k l. sym (listings-same w (buffering w n) refl refl k (λ slot c p q. times-same w (buffering w n) slot c k (buffering-reach slot c) (λ i h. buffering-number slot c i))));
         listed = λ slot c i p q h. rw (buffering-entry slot c i) (a .listed slot c i p q (omega (arith, buffering-length slot c)));
         sizes = a .sizes;
+        sixteen = a .sixteen;
+        alone = alone-counts (w .state) (w .state .place) (w .state .queued) n (a .alone);
         rows = λ slot p. buffering-rows slot;
         unlisted = λ slot c p d q. buffering-length slot c;
       }

@@ -311,6 +311,8 @@ module _ {w : World} {ext : ℕ → ℕ} (b : Batch) (c : ℕ) (a : Holding w ex
         sound = sound-recount (listings v) sound-here (λ k l. omega (arith, one-listings one place-in q k, times-is k));
         listed = λ slot d i p r l. listed-then slot d i p r l (ℕ-discrete slot place) (ℕ-discrete d c);
         sizes = λ d r z. rw same-state (a .sizes d r z);
+        sixteen = rw same-state (a .sixteen);
+        alone = rw same-state (a .alone);
         rows = λ slot p. rows-here slot;
         unlisted = λ slot d p z r. length-other slot d r (by-slot z);
       }

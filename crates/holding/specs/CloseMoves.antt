@@ -33,6 +33,7 @@ use Rattle.holding.specs.Holding.{reach, numberAt, listings, Holding, St
 use Rattle.holding.specs.BeginLaws.{begins-is}
 use Rattle.holding.specs.Rests.{reach-open, reach-shut, number-listed, number-open}
 use Rattle.holding.specs.CountLaws.{times-same}
+use Rattle.holding.specs.AloneLaws.{column-length, not-open, alone-one}
 use Rattle.holding.specs.Moves.{Moves, Still}
 use Rattle.holding.specs.MoveLaws.{Remains, remains-moves, live-stands, moves-refl, still-refl, rows-most}
 use Rattle.holding.specs.SlotLaws.{cell-agrees, bit-agrees, entry-agrees, entry-views}
@@ -206,6 +207,8 @@ module _ {w : World} {ext : ℕ → ℕ} (c : ℕ) (a : Holding w ext) (q : c < 
         sound = sound-recount (listings shut) sound-here (λ k l. omega (arith, one-listings one (a .run .fit .place) q k, times-same w shut place c k reach-here number-here));
         listed = λ slot d i p r h. listed-then slot d i p r h (ℕ-discrete slot place) (ℕ-discrete d c);
         sizes = λ d r v. rw (shut-source d) (a .sizes d r v);
+        sixteen = column-length (w .state) c (columnOf (w .state) c .source) OpenBlock.Closed ∙ a .sixteen;
+        alone = alone-one c (beside .set-up) other-block (λ d k n p g. not-open (record { 0 = k }) (sym shut-block ∙ p .block)) (a .alone);
         rows = λ slot p. shut-rows slot;
         unlisted = λ slot d p z r. length-other slot d r (by-slot z);
       }

@@ -39,6 +39,7 @@ use Rattle.holding.specs.Holding.{reach, numberAt, timesIn, listings, Qu
 use Rattle.holding.specs.BeginLaws.{begins-is}
 use Rattle.holding.specs.Rests.{Shows, reach-plain, reach-other, reach-open, number-open, rests-shows}
 use Rattle.holding.specs.CountLaws.{sum-zero, times-same, listings-slot, listed-counted, number-below}
+use Rattle.holding.specs.AloneLaws.{alone-counts}
 use Rattle.holding.specs.MoveLaws.{sound-at, rows-filling, rows-other, rows-most, rows-same}
 use Rattle.holding.specs.RowLaws.{rows-read, upTo-first, upTo-ext}
 use Rattle.holding.specs.After.{rows-are}
@@ -267,6 +268,8 @@ module _ {w : World} (g : Between w) (some : w .state .queued ≢ 0) where
         sound = sound-at (same .numbers) (ap (λ p. p .0) (same .pool)) sound;
         listed = λ slot c i p q h. listed slot c i p q h (ℕ-discrete slot front);
         sizes = λ c q y. rw (column c) (a .sizes c q (sym (same-views same c) ∙ y));
+        sixteen = a .sixteen;
+        alone = alone-counts (w .state) place (w .state .queued - 1) (w .state .buffered .0) (a .alone);
         uncounted = λ slot p n. uncounted-at slot p n (ℕ-discrete slot front);
         unlisted = λ slot c p d n q. unlisted-at slot c p d n q (ℕ-discrete slot front);
         some = λ slot z. omega (arith, rows-there slot (not-front slot z), a .some slot (queued-was slot z));

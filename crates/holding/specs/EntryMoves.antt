@@ -63,6 +63,8 @@ module _ (w : World) (pool books : List ℕ) (f : Framed 0 (4 + 20 * w .state .n
           sound = sound-recount (listings (inMemory w pool books)) s (λ k l. sym (memory-listings k));
           listed = λ slot c i p q h. a .listed slot c i p q (omega (arith, memory-length slot c));
           sizes = a .sizes;
+          sixteen = a .sixteen;
+          alone = a .alone;
           rows = λ slot p. memory-rows slot;
           unlisted = λ slot c p d q. memory-length slot c;
         }

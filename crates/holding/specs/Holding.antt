@@ -11,6 +11,8 @@ use Rattle.views.specs.View.{viewOf, isValid}
 use Rattle.blocks.specs.BlockLaws.{Power}
 use Rattle.books.specs.Entry.{entryOf, isFree}
 use Rattle.sound.specs.Sound.{Sound, filledBytes}
+use Rattle.state.specs.declared.BatchCoalescer.{BatchCoalescer}
+use Rattle.state.specs.declared.OpenBlock.{OpenBlock}
 use Rattle.state.specs.World.{World, columnOf}
 use Rattle.state.specs.Layout.{isViews, cellPlace, rowsIn, listLength, queuedSlot}
 use Rattle.state.specs.Rows.{listedAt, bufferAt}
@@ -39,6 +41,18 @@ timesIn w slot c k = sumTo (reach w slot c) (λ i. cond (eqb k (numberAt w slot 
 unfoldable pub listings : World → ℕ → ℕ
 listings w k = sumTo (w .state .queue + 1) (λ slot. sumTo (w .state .columns) (λ c. timesIn w slot c k))
 
+-- ---- the open blocks
+
+-- column c, of views, has block k open
+pub record HasOpen (s : BatchCoalescer) (c k : ℕ) : Type 0 where
+  pub column : c < s .columns
+  pub views : isViews s c ≡ true
+  pub block : columnOf s c .block ≡ OpenBlock.Number (record { 0 = k })
+
+-- no two columns have the same
+pub record Alone (s : BatchCoalescer) : Type 0 where
+  pub alone : (c d k : ℕ) → HasOpen s c k → HasOpen s d k → c ≡ d
+
 -- ---- the rows of a slot
 
 -- the slot of a queued batch
@@ -62,6 +76,9 @@ pub record Holding (w : World) (ext : ℕ → ℕ) : Type 0 where
   pub listed : (slot c i : ℕ) → slot ≤ w .state .queue → c < w .state .columns → i < listLength w slot c → listedAt w slot c i < w .state .numbers
   -- a column of views keeps a block size that is 4,096 doubled
   pub sizes : (c : ℕ) → c < w .state .columns → isViews (w .state) c ≡ true → Power (columnOf (w .state) c .source .current .0)
+  -- a state has 16 columns, those that set-up did not ask for behind the others; and no two have the same block open
+  pub sixteen : length (w .state .column) ≡ 16
+  pub alone : Alone (w .state)
   -- a slot that is not queued counts no rows, and one that is not being filled either lists nothing
   pub uncounted : (slot : ℕ) → slot ≤ w .state .queue → (Queued w slot → ⊥) → rowsIn w slot ≡ 0
   pub unlisted : (slot c : ℕ) → slot ≤ w .state .queue → slot ≢ w .state .place → (Queued w slot → ⊥) → c < w .state .columns → listLength w slot c ≡ 0

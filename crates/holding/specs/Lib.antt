@@ -4,6 +4,7 @@ pub mod BeginLaws
 pub mod ByteLaws
 pub mod Rests
 pub mod CountLaws
+pub mod AloneLaws
 pub mod Moves
 pub mod MoveLaws
 pub mod SlotLaws

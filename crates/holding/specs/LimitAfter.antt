@@ -14,6 +14,7 @@ use Rattle.rules.specs.Views.{openNumber}
 use Rattle.going.specs.Run.{Run}
 use Rattle.holding.specs.Holding.{reach, numberAt, listings, Queued, rowsAt, Holding, Between}
 use Rattle.holding.specs.CountLaws.{times-same, listings-same}
+use Rattle.holding.specs.AloneLaws.{alone-columns}
 use Rattle.holding.specs.RowLaws.{rows-read, batches-read}
 use Rattle.holding.specs.MemoryAfter.{Same}
 
@@ -122,6 +123,8 @@ module _ (w : World) (l : Limit) where
         sound = sound-recount (listings v) (a .sound) (λ k h. sym (listings-same w v refl refl k (λ slot c p q. times-same w v slot c k (reaches slot c) (λ i m. numbers slot c i))));
         listed = λ slot c i p q h. rw (entries slot c i) (a .listed slot c i p q h);
         sizes = a .sizes;
+        sixteen = a .sixteen;
+        alone = alone-columns (w .state) (v .state) refl (λ c. refl) (a .alone);
         uncounted = λ slot p n. a .uncounted slot p (λ z. n (queued-on slot z));
         unlisted = λ slot c p d n q. a .unlisted slot c p d (λ z. n (queued-on slot z)) q;
         some = λ slot z. a .some slot (queued slot z);

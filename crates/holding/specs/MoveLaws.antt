@@ -27,7 +27,7 @@ use Rattle.rules.specs.SameLaws.{same-width, same-views, same-value-place, same
 use Rattle.going.specs.Run.{Run, Goes}
 use Rattle.going.specs.BooksGo.{held-says}
 use Rattle.going.specs.Firm.{goes-refl, goes-trans}
-use Rattle.holding.specs.Holding.{reach, numberAt, listings, Queued, rowsAt, Holding, Begins, Stands}
+use Rattle.holding.specs.Holding.{reach, numberAt, listings, Alone, Queued, rowsAt, Holding, Begins, Stands}
 use Rattle.holding.specs.BeginLaws.{begins-refl, begins-trans, keeps-begins}
 use Rattle.holding.specs.Rests.{cell-is, Rests, Lists, Shows, rests-shows}
 use Rattle.holding.specs.CountLaws.{number-below, number-live}
@@ -126,6 +126,8 @@ pub record Remains (w : World) (ext : ℕ → ℕ) (v : World) : Type 0 where
   pub sound : Sound (v .books) (w .state .numbers) (w .state .pool .0) (listings v)
   pub listed : (slot c i : ℕ) → slot ≤ w .state .queue → c < w .state .columns → i < listLength v slot c → listedAt v slot c i < w .state .numbers
   pub sizes : (c : ℕ) → c < w .state .columns → isViews (w .state) c ≡ true → Power (columnOf (v .state) c .source .current .0)
+  pub sixteen : length (v .state .column) ≡ 16
+  pub alone : Alone (v .state)
   pub rows : (slot : ℕ) → slot ≤ w .state .queue → rowsIn v slot ≡ rowsIn w slot
   pub unlisted : (slot c : ℕ) → slot ≤ w .state .queue → slot ≢ w .state .place → c < w .state .columns → listLength v slot c ≡ listLength w slot c
 
@@ -144,6 +146,8 @@ module _ {w : World} {ext : ℕ → ℕ} {v : World} (a : Holding w ext) (g : Ru
         sound = sound-at (e .numbers) (ap (λ p. p .0) (e .pool)) (s .sound);
         listed = λ slot c i p q h. omega (arith, e .numbers, s .listed slot c i (rw (e .queue) at p) (rw (e .columns) at q) h);
         sizes = λ c q y. s .sizes c (rw (e .columns) at q) (sym (same-views e c) ∙ y);
+        sixteen = s .sixteen;
+        alone = s .alone;
         uncounted = λ slot p n. let p′ : slot ≤ w .state .queue = rw (e .queue) at p in s .rows slot p′ ∙ a .uncounted slot p′ (λ z. n (queued-on w v slot b z));
         unlisted = λ slot c p d n q.
             let p′ : slot ≤ w .state .queue = rw (e .queue) at p in
@@ -257,6 +261,8 @@ holding-more {w} {ext} c n a q h new =
       sound = a .sound;
       listed = a .listed;
       sizes = a .sizes;
+      sixteen = a .sixteen;
+      alone = a .alone;
       uncounted = a .uncounted;
       unlisted = a .unlisted;
       some = a .some;

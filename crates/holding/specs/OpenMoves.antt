@@ -50,10 +50,11 @@ use Rattle.going.specs.Firm.{same-list-length}
 use Rattle.going.specs.StepGoes.{column-cases, column-new}
 use Rattle.going.specs.OpenGoes.{Opened, opened-anew}
 use Rattle.going.specs.Along.{holds-both}
-use Rattle.holding.specs.Holding.{reach, numberAt, timesIn, listings, Holding, Stands}
+use Rattle.holding.specs.Holding.{reach, numberAt, timesIn, listings, HasOpen, Holding, Stands}
 use Rattle.holding.specs.BeginLaws.{begins-is}
 use Rattle.holding.specs.Rests.{reach-open, reach-shut, number-listed, number-open}
 use Rattle.holding.specs.CountLaws.{sum-ext}
+use Rattle.holding.specs.AloneLaws.{open-counted, column-length, alone-one}
 use Rattle.holding.specs.Moves.{Moves, Still}
 use Rattle.holding.specs.MoveLaws.{Remains, remains-moves, live-stands}
 use Rattle.holding.specs.OneList.{OneList, one-listings, one-lists}
@@ -203,6 +204,12 @@ module _ {w : World} {ext : ℕ → ℕ} (c min : ℕ) (a : Holding w ext) (q : 
       (λ n. kept-power (columnOf (w .state) c .source .current .0) min (a .sizes c q y))
       (a .sizes d r z)
 
+  -- its number was free, so that no column had it open
+  other-open : (j : ℕ) → HasOpen (v .state) c j → (d : ℕ) → HasOpen (w .state) d j → ⊥
+  other-open j p d g =
+      let z : j ≡ k = ap blockNumber (sym (p .block) ∙ block) in
+      omega (arith, open-counted a d j g, ap (listings w) z, none)
+
   remains : Remains w ext v
   remains =
       record {
@@ -212,6 +219,8 @@ module _ {w : World} {ext : ℕ → ℕ} (c min : ℕ) (a : Holding w ext) (q : 
         sound = sound-recount (listings v) gone (λ j l. counts j);
         listed = λ slot d i p r h. rw (entries slot d i) (a .listed slot d i p r (omega (arith, lengths slot d)));
         sizes = sizes-here;
+        sixteen = column-length (w .state) c (source w c min) (OpenBlock.Number (room .number)) ∙ a .sixteen;
+        alone = alone-one c (b .set-up) (one .blocks) (λ d j n p g. other-open j p d g) (a .alone);
         rows = λ slot p. same-rows-in w v (b .set-up) (changed .framed) slot;
         unlisted = λ slot d p z r. lengths slot d;
       }

@@ -105,6 +105,8 @@ module _ {w : World} {ext : ℕ → ℕ} (b : Batch) (c : ℕ) (a : Holding w ex
         sound = sound-recount (listings v) (tally-sound (tally (w .state) place (c + 1)) 0 (a .sound) (omega arith)) (λ k l. sym (listings-same w v refl refl k (λ slot d p r. times-same w v slot d k (reaches slot d p r) (λ i h. numbers slot d i p r))));
         listed = λ slot d i p r h. a .listed slot d i p r (omega (arith, lengths slot d p r));
         sizes = a .sizes;
+        sixteen = a .sixteen;
+        alone = a .alone;
         rows = λ slot p. counting-rows w place (c + 1) 0 slot (omega arith) (λ e z. omega arith);
         unlisted = λ slot d p z r. lengths slot d p r;
       }

@@ -25,10 +25,11 @@ use Rattle.rules.specs.SameLaws.{same-views, same-list-place}
 use Rattle.going.specs.Run.{Goes}
 use Rattle.going.specs.TestedLaws.{bounds-say}
 use Rattle.going.specs.FinishGoes.{Shut, queueing-goes}
-use Rattle.holding.specs.Holding.{reach, numberAt, listings, Queued, rowsAt, Holding, Stands}
+use Rattle.holding.specs.Holding.{reach, numberAt, listings, Alone, Queued, rowsAt, Holding, Stands}
 use Rattle.holding.specs.BeginLaws.{begins-is}
 use Rattle.holding.specs.Rests.{Lists, Shows, reach-plain, reach-shut, number-listed, rests-shows}
 use Rattle.holding.specs.CountLaws.{times-same, listings-same, number-below, number-live}
+use Rattle.holding.specs.AloneLaws.{alone-counts}
 use Rattle.holding.specs.MoveLaws.{sound-at, rows-filling, rows-other}
 use Rattle.holding.specs.TallyMoves.{tally-sound, tally-filled, counting-rows, counting-length, counting-rows-here}
 use Rattle.holding.specs.RowLaws.{rows-read, upTo-ext}
@@ -50,6 +51,14 @@ module _ {w : World} (rows : ℕ) (a : Holding w (λ c. rows)) (s : Shut w) (roo
   same : SameSetUp (w .state) (v .state)
   unfolding queueing counting
   same = same-counts (w .state) (nextSlot (w .state) place) (w .state .queued + 1) 0
+
+  sixteen-here : length (v .state .column) ≡ 16
+  unfolding queueing counting
+  sixteen-here = a .sixteen
+
+  alone-here : Alone (v .state)
+  unfolding queueing counting
+  alone-here = alone-counts (w .state) (nextSlot (w .state) place) (w .state .queued + 1) 0 (a .alone)
 
   goes : Goes w v
   goes = queueing-goes rows (a .run) s room small
@@ -205,6 +214,8 @@ module _ {w : World} (rows : ℕ) (a : Holding w (λ c. rows)) (s : Shut w) (roo
             let q′ : c < w .state .columns = omega (arith, same .columns) in
             omega (arith, same .numbers, entries slot c i, a .listed slot c i (omega (arith, same .queue)) q′ (omega (arith, lengths slot c q′)));
         sizes = λ c q y. sizes c (omega (arith, same .columns)) (sym (same-views same c) ∙ y);
+        sixteen = sixteen-here;
+        alone = alone-here;
         uncounted = λ slot p n. rows-there slot (λ e. n (rw e queued-place-now)) ∙ a .uncounted slot (omega (arith, same .queue)) (λ z. n (queued-on slot z));
         unlisted = λ slot c p d n q.
             let q′ : c < w .state .columns = omega (arith, same .columns) in

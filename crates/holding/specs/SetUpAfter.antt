@@ -17,7 +17,6 @@ use Rattle.sound.specs.SoundLaws.{sound-recount}
 use Rattle.sound.specs.Kept.{empty-sound}
 use Rattle.tallies.specs.declared.Tally.{Tally}
 use Rattle.tallies.specs.Tally.{tallyOf}
-use Rattle.counts.specs.declared.BufferNumber.{BufferNumber}
 use Rattle.state.specs.declared.OpenBlock.{OpenBlock}
 use Rattle.state.specs.World.{World, noColumn, columnOf}
 use Rattle.state.specs.Layout.{isViews, slotsLength, booksLength, listLength, rowsIn, queuedSlot}
@@ -32,6 +31,7 @@ use Rattle.going.specs.TestedLaws.{Bounds, bounds-say}
 use Rattle.holding.specs.Holding.{reach, numberAt, timesIn, listings, rowsAt, Holding, Between}
 use Rattle.holding.specs.Rests.{reach-plain, reach-shut}
 use Rattle.holding.specs.CountLaws.{sum-zero}
+use Rattle.holding.specs.AloneLaws.{new-sixteen, not-open}
 use Rattle.holding.specs.MoveLaws.{rows-filling, rows-other}
 
 -- ---- bytes of zeros
@@ -166,12 +166,9 @@ module _ (a : Wanted) (slots pool books : List ℕ) (ok : fitsSetUp (record { st
         lists = λ slot c p q. omega (arith, lengths slot c);
         none = λ slot c p q y. lengths slot c;
         kept = λ c q y. omega (arith, power-range _ (sizes c q) .0);
-        block = λ c k q y o. absurd (not-number k (sym (column c q .1) ∙ o));
-        room = λ c k q y o. absurd (not-number k (sym (column c q .1) ∙ o));
+        block = λ c k q y o. absurd (not-open k (sym (column c q .1) ∙ o));
+        room = λ c k q y o. absurd (not-open k (sym (column c q .1) ∙ o));
       }
-    where
-      not-number : (k : BufferNumber) → OpenBlock.Closed ≡ OpenBlock.Number k → ⊥
-      not-number k q = let z : _≡_ {A = ℕ} 0 1 = cc in omega arith
 
   holding : Holding w (λ c. newState a .buffered .0)
   holding =
@@ -180,6 +177,8 @@ module _ (a : Wanted) (slots pool books : List ℕ) (ok : fitsSetUp (record { st
         sound = sound;
         listed = λ slot c i p q h. absurd (omega (arith, lengths slot c));
         sizes = λ c q y. sizes c q;
+        sixteen = new-sixteen a;
+        alone = record { alone = λ c d k p r. absurd (not-open (record { 0 = k }) (sym (column c (p .column) .1) ∙ p .block)) };
         uncounted = λ slot p n. rows slot;
         unlisted = λ slot c p d n q. lengths slot c;
         some = λ slot z. absurd (omega (arith, z .below, none-queued));

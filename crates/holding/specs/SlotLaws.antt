@@ -116,6 +116,8 @@ module _ {w : World} {ext : ℕ → ℕ} (x : List ℕ) (a : Holding w ext) (wor
         sound = sound-recount (listings (inSlots w x)) (a .sound) (λ k l. sym (listings-same w (inSlots w x) refl refl k (λ slot c p q. times-same w (inSlots w x) slot c k (slots-reach w x slot c) (slots-lists slot c p q .same))));
         listed = λ slot c i p q h. let l : i < listLength w slot c = rw (slots-length w x slot c) at h in rw (words slot c i p q l) (a .listed slot c i p q l);
         sizes = a .sizes;
+        sixteen = a .sixteen;
+        alone = a .alone;
         rows = λ slot p. slots-rows w x slot;
         unlisted = λ slot c p d q. slots-length w x slot c;
       }

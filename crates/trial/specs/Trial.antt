@@ -33,6 +33,6 @@ pub record Answers (s : BatchCoalescer) (books : List ℕ) (b : Batch) (number :
   pub number-is : Apart s books → (slots pool after : List ℕ) → length slots ≡ slotsLength s → length pool ≡ s .pool .0 → Restored books after (s .numbers) → numberOf (stepped (world s slots pool after) b) ≡ number
 
 -- books in which a free number has a zero entry, whether it is among those in use or not. 01: "it is free, its entry in the books is zero". Every history
--- leaves them so; a trial then puts every byte back
+-- leaves them so (`between-orderly`, in crates/promise); a trial then puts every byte back
 pub record Tidy (s : List ℕ) (n : ℕ) : Type 0 where
   pub zero : (k : ℕ) → k < n → isFreeAt s k ≡ true → entryOf s k ≡ noEntry

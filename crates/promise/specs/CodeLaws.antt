@@ -1,0 +1,86 @@
+-- What the code makes is the history that its calls are: demand 3, of the code.
+use Prim.Native.Nat.{ℕ, _<_}
+use mathlib.Core.Path.{_≡_, refl, sym, _∙_, ap}
+use mathlib.Core.List.{List, [], _∷_, _++_}
+use lib.Dec.{eqb}
+use lib.ListN.{length}
+use Rattle.state.specs.declared.BatchCoalescer.{BatchCoalescer}
+use Rattle.state.specs.World.{World, world}
+use Rattle.state.specs.Rows.{joined, queuedRows, bufferedRows}
+use Rattle.columns.specs.declared.Step.{Step}
+use Rattle.rules.specs.Batch.{batchRows}
+use Rattle.rules.specs.Ranges.{tested}
+use Rattle.rules.specs.Calls.{Answered, Wanted, setUpCall, dropCall, registerCall}
+use Rattle.rules.specs.CallLaws.{set-up-zero, set-up-done}
+use Rattle.set_up.specs.SetUp.{SetsUp}
+use Rattle.capi.specs.ApiLaws.{drop-same, register-same, let-go-same}
+use Rattle.holding.specs.Holding.{Between}
+use Rattle.holding.specs.Tested.{between-tested}
+use Rattle.holding.specs.SetUpAfter.{set-up-begins}
+use Rattle.history.specs.Call.{Call, push, finish, drop, register, letGo, limit, read, Did, ifDone, front, step, run}
+use Rattle.history.specs.CallLaws.{call-law}
+use Rattle.history.specs.History.{did, all, in-order, below-target}
+use Rattle.promise.specs.Orderly.{between-orderly}
+use Rattle.promise.specs.Code.{Made, by-push, by-finish, by-drop, by-register, by-let-go, by-limit, by-read, Makes, none, next}
+
+-- ---- one call
+
+abbrev changed : World → Did
+changed v = record { world = v; accepted = []; taken = [] }
+
+-- what is not lent to be changed is as it was
+lent-parts : {state : BatchCoalescer} {slots pool books : List ℕ} (v : World) → v .state ≡ state → v .slots ≡ slots → v .pool ≡ pool → v .books ≡ books → world state slots pool books ≡ v
+lent-parts v e f g h = rw (← e, ← f, ← g, ← h)
+
+pub made-is : (w : World) (c : Call) {x : Did} → Between w → Made w c x → x ≡ step w c
+unfolding step
+made-is w (push b bytes) g (by-push d p) =
+    ap (λ (a : Answered). record { world = a .world; accepted = ifDone (a .number) (batchRows w b); taken = [] }) (p .exact (between-orderly g))
+made-is w finish g (by-finish e) = ap (λ (a : Answered). changed (a .world)) e
+made-is w drop g (by-drop p) =
+    rw (p .state-is, p .number-is, p .books-are)
+    (ap (λ (v : World). record { world = v; accepted = []; taken = front w (dropCall w .number) (eqb (w .state .queued) 0) })
+    (lent-parts (dropCall w .world) refl (drop-same w .0) (drop-same w .1) refl))
+made-is w (register bytes capacity) g (by-register p) =
+    rw (p .pool-is, p .books-are)
+    (ap changed (lent-parts (registerCall w bytes capacity .world) (register-same w bytes capacity .0) (register-same w bytes capacity .1) refl refl))
+made-is w (letGo k) g (by-let-go p) = rw (p .books-are) (ap changed (sym (let-go-same w k)))
+made-is w (limit l) g (by-limit e) = rw e
+made-is w read g by-read = refl
+
+-- ---- a history
+
+pub makes-is : (w : World) (cs : List Call) {x : Did} → Between w → Makes w cs x → x ≡ run w cs
+unfolding run
+makes-is w [] g none = refl
+makes-is w (c ∷ cs) g (next {x = x} {y = y} m ms) =
+    let e : x ≡ step w c = made-is w c g m in
+    let t : Makes (step w c .world) cs y = rw e at ms in
+    rw (e, makes-is (step w c .world) cs (call-law w c g .between) t)
+
+-- ---- from a set-up: new_coalescer, which answered 0, and any calls after it, x being what they did
+
+module _ (a : Wanted) (slots pool books : List ℕ) {r : Step} {books′ : List ℕ} (s : SetsUp (setUpCall a slots pool books) books′ r) (z : r .number ≡ 0) (cs : List Call) {x : Did} (m : Makes (world (r .state) slots pool books′) cs x) where
+  -- the set-up is not refused
+  pub begun : setUpCall a slots pool books .number ≡ 0
+  begun = sym (s .number-is) ∙ z
+
+  first-is : world (r .state) slots pool books′ ≡ setUpCall a slots pool books .world
+  first-is =
+      let e = set-up-done a slots pool books (set-up-zero a slots pool books begun) in
+      lent-parts (setUpCall a slots pool books .world) (sym (s .state-is)) (ap (λ (t : Answered). t .world .slots) e) (ap (λ (t : Answered). t .world .pool) e) (sym (s .books-are))
+
+  -- what the code did is the history
+  pub code-is : x ≡ did a slots pool books begun cs
+  code-is = makes-is (setUpCall a slots pool books .world) cs (set-up-begins a slots pool books begun .between) (rw first-is at m)
+
+  -- so that all that is proved of histories is proved of the code: demand 3
+  pub code-in-order : x .accepted ≡ joined (x .taken) ++ (queuedRows (x .world) ++ bufferedRows (x .world))
+  code-in-order = rw code-is (in-order a slots pool books begun cs)
+
+  pub code-below-target : length (bufferedRows (x .world)) < a .target
+  code-below-target = rw code-is (below-target a slots pool books begun cs)
+
+  -- and no call meets 1 or 14
+  pub code-never-refused : tested (x .world) ≡ 0
+  code-never-refused = rw code-is (between-tested (all a slots pool books begun cs .between))
