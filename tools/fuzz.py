@@ -4,8 +4,10 @@ import random
 import struct
 import sys
 
-from edges import Capture, batch, column, inline, long, text
-from model import NONE, WIDTH, Coalescer, Refused, is_view, play
+from capture import Capture, batch, column, inline, long, text
+from model import Coalescer
+from play import play
+from world import NONE, WIDTH, Refused, is_view
 
 
 def cells_of(rng, kind, rows, held):

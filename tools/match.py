@@ -4,7 +4,7 @@ sends them. usage: match.py CAPTURE [TABLE]: also writes what the program `court
 import struct
 import sys
 
-from edges import Capture, batch, column, inline, long
+from capture import Capture, batch, column, inline, long
 from model import Coalescer
 
 U64, U8, UTF8 = 8, 5, 18
