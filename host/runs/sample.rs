@@ -1,8 +1,11 @@
 //! Writes the list that the program `replay` is held to: histories from a seed in which nothing was refused, as a capture, and what
 //! the Rust text answered.
 //!
-//! `sample HISTORIES SEED CAPTURE ANSWERS`. Histories over small memories are taken, so that the list is short and the program small.
+//! `sample HISTORIES SEED CAPTURE ANSWERS`. Histories over small memories are taken, so that the list is short and the program small; two of three
+//! have opened a block.
 
+use puffwidget::Memory;
+use puffwidget::layout::Reader;
 use runs::beside::Tally;
 use runs::histories::history;
 
@@ -20,12 +23,9 @@ fn main() {
         let run = history(seed, &mut tally);
         seed += 1;
         let small = run.memory.slots.len() <= 65_536 && run.memory.pool.len() <= 300_000 && run.memory.books.len() <= 65_536;
-        if tally.refused.iter().sum::<u64>() > 0
-            || !small
-            || run.trace.said.len() > 4_000
-            || run.trace.calls.len() > 12_000
-            || tally.pushes < 3
-        {
+        let short = run.trace.said.len() <= 4_000 && run.trace.calls.len() <= 12_000;
+        let refused = tally.refused.iter().sum::<u64>() > 0;
+        if refused || !small || !short || tally.pushes < 3 || (found % 3 > 0 && !compacted(&run.memory)) {
             continue;
         }
         calls.extend_from_slice(&run.trace.calls);
@@ -45,4 +45,10 @@ fn main() {
         calls.len(),
         said.len()
     );
+}
+
+/// A block was opened in some column: its kept size is not the first.
+fn compacted(memory: &Memory) -> bool {
+    let reader = Reader::new(memory);
+    (0..reader.kinds().len()).any(|c| reader.kept(c) > 4_096)
 }
