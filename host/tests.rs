@@ -92,3 +92,12 @@ fn a_full_queue_refuses_and_a_taken_batch_makes_room() {
     assert_eq!(coalescer.next_completed_batch().unwrap().unwrap().columns[0][0].as_deref(), Some(&[2][..]));
     assert_eq!(coalescer.next_completed_batch(), Ok(None));
 }
+
+#[test]
+fn a_buffer_reads_back_until_nothing_holds_it() {
+    let mut coalescer = BatchCoalescer::new(&SetUp::new(&[Kind::Utf8View], 3)).unwrap();
+    let number = coalescer.register_buffer(b"Nandini", 40).unwrap();
+    assert_eq!(coalescer.read_buffer(number).unwrap(), b"Nandini");
+    coalescer.let_go(number).unwrap();
+    assert_eq!(coalescer.read_buffer(number), Err(Refusal::NotThere));
+}

@@ -133,6 +133,12 @@ impl BatchCoalescer {
         self.memory.let_go(buffer.0).map_err(Refusal::from_call)
     }
 
+    /// The bytes of a buffer that is held or listed.
+    pub fn read_buffer(&self, buffer: BufferNumber) -> Result<Vec<u8>, Refusal> {
+        self.memory.buffer_refusal(buffer.0).map_err(Refusal::from_call)?;
+        Ok(self.buffer(buffer.0))
+    }
+
     /// Pushes all rows of a batch.
     pub fn push_batch(&mut self, batch: &Batch) -> Result<(), Refusal> {
         self.memory.push_batch(&batch.records, &batch.body, batch.rows).map_err(Refusal::from_call)
