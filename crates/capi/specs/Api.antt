@@ -63,15 +63,19 @@ pub record Given : Type 0 where
 abbrev pub given : Answered → Given
 given a = record { number = a .number; value = 0; world = a .world }
 
+-- 01: "Push, step by step"
 unfoldable pub pushing : Batch → World → Given
 pushing b w = given (pushCall w b)
 
+-- 01: "Finishing with 0 buffered does nothing. Otherwise each column's open block joins its list and the slot is queued."
 unfoldable pub finishing : World → Given
 finishing w = given (finishCall w)
 
+-- 01: "dropping answers its row count, and 0 on an empty queue"
 unfoldable pub dropping : World → Given
 dropping w = record { number = dropCall w .number; value = dropCall w .rows; world = dropCall w .world }
 
+-- 01: "The caller registers bytes with a capacity not below their length, gets the lowest free number and the caller's hold"
 unfoldable pub registering : List ℕ → ℕ → World → Given
 registering bytes capacity w =
     record {
@@ -80,6 +84,7 @@ registering bytes capacity w =
       world = registerCall w bytes capacity .world;
     }
 
+-- 01: ".. and may let go"
 unfoldable pub lettingGo : ℕ → World → Given
 lettingGo i w = given (letGoCall w i)
 
@@ -98,6 +103,7 @@ pub record Keeps (n : ℕ) (s : BatchCoalescer) (b b′ : List ℕ) (r : ℕ) : 
   pub answer-is : r ≡ n
   pub bytes-are : b′ ≡ keptAs n s b
 
+-- an answer in its form, with the state coded anew where the call was not refused. 01: "Each returns its number .. and changes nothing"
 unfoldable pub coded : Form → List ℕ → Given → Said
 coded form b g =
     said (inForm form (g .number) (g .value))
@@ -125,6 +131,8 @@ askedFor target rows queue lists numbers kinds pool =
 unfoldable pub askable : ℕ → ℕ → ℕ → Bool
 askable state kinds pool = eqb state 304 && (leb kinds 64 && (eqb (kinds % 4) 0 && leb pool 4294967295))
 
+-- 01: "Set-up empties state and books, sets no limit, and changes no slot or pool byte."; 1: "set-up outside its bounds, or lent memory not of the
+-- set-up lengths"
 unfoldable pub created : Wanted → List ℕ → Memory → Said
 created a kinds m =
     cond (eqb (length (m .state)) 304 && eqb (length kinds % 4) 0)
@@ -140,6 +148,7 @@ bufferNumber m i = cond (eqb (decoded (m .state) .number) 0) (bufferNumberCall (
 unfoldable pub partIn : Memory → ℕ → List ℕ
 partIn m i = cond (eqb (decoded (m .state) .number) 0) (bufferCall (worldIn m) i) []
 
+-- 01: "Reading a buffer hands back the part of the pool it fills"; across C its bytes are copied to the front of `out`
 unfoldable pub bufferRead : Memory → ℕ → List ℕ → Told
 bufferRead m i out = told (length (partIn m i)) (lay 0 (partIn m i) out)
 
@@ -148,19 +157,23 @@ unfoldable pub rowIn : Memory → ℕ → ℕ → RowAnswer
 rowIn m c i =
     cond (eqb (decoded (m .state) .number) 0) (readRow (worldIn m) c i) (RowAnswer.Refused (decoded (m .state) .number))
 
+-- 01: "Reading a row answers by cases"; 1 where `out` is not of 20 bytes
 unfoldable pub rowRead : Memory → ℕ → ℕ → List ℕ → Told
 rowRead m c i out =
     cond (eqb (length out) 20) (told (rowRefusal (rowIn m c i)) (rowBytes (rowIn m c i) out)) (told 1 out)
 
 -- ---- the state alone: bytes that code none count as a state of zeros
 
+-- set_biggest_coalesce_batch_size: a flag and the rows
 unfoldable pub limitSet : ℕ → ℕ → List ℕ → Told
 limitSet flag rows b =
     cond (eqb (decoded b .number) 0) (told 0 (codeOf (withLimit (decoded b .state) (limitIn flag rows)))) (told (decoded b .number) b)
 
+-- biggest_coalesce_batch_size
 unfoldable pub limitRead : List ℕ → ℕ
 limitRead b = limitPair (limitOf (decoded b .state))
 
+-- get_buffered_rows, has_completed_batch, is_empty. 01: they "work on the state alone and refuse nothing"
 unfoldable pub rowsBuffered : List ℕ → ℕ
 rowsBuffered b = bufferedCount (decoded b .state)
 

@@ -25,6 +25,7 @@ making a w = given a
 abbrev pub Promised : World → Batch → Step → List ℕ → List ℕ → List ℕ → Type 0
 Promised w x q slots pool books = Pushes w x q slots pool books
 
+-- the step, its promise where the bytes code a state, and the call on bytes that gives its answer
 pub record HandsOn (m : Memory) (x : Batch) (r : ℕ) (m′ : Memory) : Type 0 where
   pub step : Step
   pub promised : decoded (m .state) .number ≡ 0 → Promised (worldIn m) x step (m′ .slots) (m′ .pool) (m′ .books)

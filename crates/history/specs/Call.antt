@@ -43,6 +43,7 @@ front w zero false = takenRows w ∷ []
 front w zero true = []
 front w (suc n) empty = []
 
+-- what one call does: the world, the rows and the batches by 01's calls (rules/Calls)
 unfoldable pub step : World → Call → Did
 step w (push b bytes) = record { world = pushCall w b .world; accepted = ifDone (pushCall w b .number) (batchRows w b); taken = [] }
 step w finish = record { world = finishCall w .world; accepted = []; taken = [] }
