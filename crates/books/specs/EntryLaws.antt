@@ -18,14 +18,14 @@ use Rattle.books.specs.declared.Entry.{Entry}
 use Rattle.books.specs.Entry.{usedOf, place, entryOf, withEntry, isFree, isFreeAt, shareByte, occupies}
 
 -- each number of the entry is a word
-pub record Fits (e : Entry) : Type 0 where
+pub record EntryWords (e : Entry) : Type 0 where
   pub start-fits : e .start < 2 ^ 32
   pub capacity-fits : e .capacity .0 < 2 ^ 32
   pub length-fits : e .length .0 < 2 ^ 32
   pub hold-fits : e .hold < 2 ^ 32
   pub listings-fits : e .listings < 2 ^ 32
 
-pub entry-fits : (s : List ℕ) (i : ℕ) → Bytes s → Fits (entryOf s i)
+pub entry-fits : (s : List ℕ) (i : ℕ) → Bytes s → EntryWords (entryOf s i)
 unfolding entryOf
 entry-fits s i b =
     record {
@@ -60,7 +60,7 @@ entry-framed s i e =
 
 module _ (s : List ℕ) (i : ℕ) (e : Entry) where
   -- the word at each of the five places
-  start-same : place i + 20 ≤ length s → Fits e → word32 (withEntry s i e) (place i) ≡ e .start
+  start-same : place i + 20 ≤ length s → EntryWords e → word32 (withEntry s i e) (place i) ≡ e .start
   unfolding withEntry
   start-same h f =
       rw (
@@ -71,7 +71,7 @@ module _ (s : List ℕ) (i : ℕ) (e : Entry) where
       )
       (word32-same _ (place i) _ (omega arith) (f .start-fits))
 
-  capacity-same : place i + 20 ≤ length s → Fits e → word32 (withEntry s i e) (place i + 4) ≡ e .capacity .0
+  capacity-same : place i + 20 ≤ length s → EntryWords e → word32 (withEntry s i e) (place i + 4) ≡ e .capacity .0
   unfolding withEntry
   capacity-same h f =
       rw (
@@ -81,24 +81,24 @@ module _ (s : List ℕ) (i : ℕ) (e : Entry) where
       )
       (word32-same _ (place i + 4) _ (simp length-withWord32 (omega arith)) (f .capacity-fits))
 
-  length-same : place i + 20 ≤ length s → Fits e → word32 (withEntry s i e) (place i + 8) ≡ e .length .0
+  length-same : place i + 20 ≤ length s → EntryWords e → word32 (withEntry s i e) (place i + 8) ≡ e .length .0
   unfolding withEntry
   length-same h f =
       rw (word32-other _ (place i + 16) _ (place i + 8) (omega arith), word32-other _ (place i + 12) _ (place i + 8) (omega arith))
       (word32-same _ (place i + 8) _ (simp length-withWord32 (omega arith)) (f .length-fits))
 
-  hold-same : place i + 20 ≤ length s → Fits e → word32 (withEntry s i e) (place i + 12) ≡ e .hold
+  hold-same : place i + 20 ≤ length s → EntryWords e → word32 (withEntry s i e) (place i + 12) ≡ e .hold
   unfolding withEntry
   hold-same h f =
       rw (word32-other _ (place i + 16) _ (place i + 12) (omega arith))
       (word32-same _ (place i + 12) _ (simp length-withWord32 (omega arith)) (f .hold-fits))
 
-  listings-same : place i + 20 ≤ length s → Fits e → word32 (withEntry s i e) (place i + 16) ≡ e .listings
+  listings-same : place i + 20 ≤ length s → EntryWords e → word32 (withEntry s i e) (place i + 16) ≡ e .listings
   unfolding withEntry
   listings-same h f = word32-same _ (place i + 16) _ (simp length-withWord32 (omega arith)) (f .listings-fits)
 
   -- an entry read where it was put
-  pub entry-same : place i + 20 ≤ length s → Fits e → entryOf (withEntry s i e) i ≡ e
+  pub entry-same : place i + 20 ≤ length s → EntryWords e → entryOf (withEntry s i e) i ≡ e
   unfolding entryOf
   entry-same h f = rw (start-same h f, capacity-same h f, length-same h f, hold-same h f, listings-same h f)
 
@@ -129,7 +129,7 @@ entry-other s i e k d = framed-entry k (entry-framed s i e) (go (decLt k i))
 pub used-withEntry : (s : List ℕ) (i : ℕ) (e : Entry) → usedOf (withEntry s i e) ≡ usedOf s
 used-withEntry s i e = framed-used (entry-framed s i e) (omega arith)
 
-pub bytes-withEntry : (s : List ℕ) (i : ℕ) (e : Entry) → Bytes s → Fits e → Bytes (withEntry s i e)
+pub bytes-withEntry : (s : List ℕ) (i : ℕ) (e : Entry) → Bytes s → EntryWords e → Bytes (withEntry s i e)
 unfolding withEntry
 bytes-withEntry s i e b f =
     bytes-withWord32 _ _ _ (bytes-withWord32 _ _ _ (bytes-withWord32 _ _ _ (bytes-withWord32 _ _ _ (bytes-withWord32 _ _ _ b (f .start-fits)) (f .capacity-fits)) (f .length-fits)) (f .hold-fits)) (f .listings-fits)

@@ -19,7 +19,7 @@ use Rattle.words.specs.WordLaws.{Bytes}
 use Rattle.books.specs.declared.Entry.{Entry}
 use Rattle.books.specs.declared.Gap.{Gap}
 use Rattle.books.specs.Entry.{usedOf, entryOf, isFree, shareByte, occupies}
-use Rattle.books.specs.EntryLaws.{Fits, entry-fits, Shares, shares-says, Occupies, occupies-says, occupies-is}
+use Rattle.books.specs.EntryLaws.{EntryWords, entry-fits, Shares, shares-says, Occupies, occupies-says, occupies-is}
 use Rattle.books.specs.Search.{asGap, clearAt, lowestGap, pastEntry, swept, sweptOf}
 
 -- the ways out of past

@@ -99,7 +99,7 @@ abbrev pub keptAs : ℕ → BatchCoalescer → List ℕ → List ℕ
 keptAs n s b = cond (eqb n 0) (codeOf s) b
 
 -- what keeping a state leaves: the number handed on, and the bytes
-pub record Keeps (n : ℕ) (s : BatchCoalescer) (b b′ : List ℕ) (r : ℕ) : Type 0 where
+pub record KeepsState (n : ℕ) (s : BatchCoalescer) (b b′ : List ℕ) (r : ℕ) : Type 0 where
   pub answer-is : r ≡ n
   pub bytes-are : b′ ≡ keptAs n s b
 

@@ -26,21 +26,21 @@ use Rattle.rules.specs.RegisterLaws.{register-tested, register-steps, let-go-te
 use Rattle.columns.specs.declared.Step.{Step}
 use Rattle.completed.specs.declared.Dropped.{Dropped}
 use Rattle.completed.specs.Drop.{Drops}
-use Rattle.reads.specs.Reads.{Registers, LetsGo}
+use Rattle.reads.specs.Reads.{RegistersCall, LetsGoCall}
 use Rattle.finishing.specs.Finish.{answered}
 use Rattle.codes.specs.declared.Coded.{Coded}
 use Rattle.codes.specs.Code.{codeOf, limitIn, isCoded, stateIn, decoded}
 use Rattle.codes.specs.TakeLaws.{code-state}
 use Rattle.crossing.specs.Cross.{pair, numberIn, limitPair, rowBytes}
-use Rattle.capi.specs.Api.{Memory, memory, said, told, Form, number, both, inForm, Given, given, pushing, finishing, dropping, registering, lettingGo, worldIn, keptAs, Keeps, coded, called}
+use Rattle.capi.specs.Api.{Memory, memory, said, told, Form, number, both, inForm, Given, given, pushing, finishing, dropping, registering, lettingGo, worldIn, keptAs, KeepsState, coded, called}
 use Rattle.capi.specs.Api.{bufferNumber, partIn, bufferRead, rowIn, rowRead, limitSet, limitRead, rowsBuffered, completedFlag, emptyFlag}
 
 -- ---- keep
 
-pub keeps-coded : {s : BatchCoalescer} {b b′ : List ℕ} {n : ℕ} → n ≡ 0 → b′ ≡ codeOf s → Keeps n s b b′ 0
+pub keeps-coded : {s : BatchCoalescer} {b b′ : List ℕ} {n : ℕ} → n ≡ 0 → b′ ≡ codeOf s → KeepsState n s b b′ 0
 keeps-coded {s} {b} {b′} {n} z e = record { answer-is = sym z; bytes-are = rw z e }
 
-pub keeps-bytes : {s : BatchCoalescer} {b : List ℕ} {n : ℕ} → (n ≡ 0 → ⊥) → Keeps n s b b n
+pub keeps-bytes : {s : BatchCoalescer} {b : List ℕ} {n : ℕ} → (n ≡ 0 → ⊥) → KeepsState n s b b n
 keeps-bytes {s} {b} {n} h = record { answer-is = refl; bytes-are = rw (ne-eqb n 0 h) }
 
 -- ---- what decoding says
@@ -97,7 +97,7 @@ module _ (f : World → Given) (b slots pool books : List ℕ) {d : Coded} (e : 
   both-refused p = call-refused both f b slots pool books e h p
 
 -- a call that answers a number and keeps the state: push and finish
-kept-call : (f : World → Answered) (g : World → Given) (b slots pool books : List ℕ) {d : Coded} {q : Step} {b′ slots′ pool′ books′ : List ℕ} {r : ℕ} → ((w : World) → g w ≡ given (f w)) → d ≡ decoded b → d .number ≡ 0 → answered q slots′ pool′ books′ ≡ f (world (d .state) slots pool books) → Keeps (q .number) (q .state) b b′ r → said r (memory b′ slots′ pool′ books′) ≡ called number g (memory b slots pool books)
+kept-call : (f : World → Answered) (g : World → Given) (b slots pool books : List ℕ) {d : Coded} {q : Step} {b′ slots′ pool′ books′ : List ℕ} {r : ℕ} → ((w : World) → g w ≡ given (f w)) → d ≡ decoded b → d .number ≡ 0 → answered q slots′ pool′ books′ ≡ f (world (d .state) slots pool books) → KeepsState (q .number) (q .state) b b′ r → said r (memory b′ slots′ pool′ books′) ≡ called number g (memory b slots pool books)
 unfolding coded
 kept-call f g b slots pool books {d} {q} {b′} {slots′} {pool′} {books′} {r} m e z p k =
     rw (k .answer-is, k .bytes-are)
@@ -105,11 +105,11 @@ kept-call f g b slots pool books {d} {q} {b′} {slots′} {pool′} {books′} 
     (m (world (d .state) slots pool books) ∙ ap given (sym p)))
 
 module _ (b slots pool books : List ℕ) {d : Coded} (e : d ≡ decoded b) (z : d .number ≡ 0) where
-  pub finish-said : {q : Step} {b′ slots′ books′ : List ℕ} {r : ℕ} → answered q slots′ pool books′ ≡ finishCall (world (d .state) slots pool books) → Keeps (q .number) (q .state) b b′ r → said r (memory b′ slots′ pool books′) ≡ called number finishing (memory b slots pool books)
+  pub finish-said : {q : Step} {b′ slots′ books′ : List ℕ} {r : ℕ} → answered q slots′ pool books′ ≡ finishCall (world (d .state) slots pool books) → KeepsState (q .number) (q .state) b b′ r → said r (memory b′ slots′ pool books′) ≡ called number finishing (memory b slots pool books)
   unfolding finishing
   finish-said p k = kept-call finishCall finishing b slots pool books (λ w. refl) e z p k
 
-  pub push-said : (x : Batch) {q : Step} {b′ slots′ pool′ books′ : List ℕ} {r : ℕ} → answered q slots′ pool′ books′ ≡ pushCall (world (d .state) slots pool books) x → Keeps (q .number) (q .state) b b′ r → said r (memory b′ slots′ pool′ books′) ≡ called number (pushing x) (memory b slots pool books)
+  pub push-said : (x : Batch) {q : Step} {b′ slots′ pool′ books′ : List ℕ} {r : ℕ} → answered q slots′ pool′ books′ ≡ pushCall (world (d .state) slots pool books) x → KeepsState (q .number) (q .state) b b′ r → said r (memory b′ slots′ pool′ books′) ≡ called number (pushing x) (memory b slots pool books)
   unfolding pushing
   push-said x p k = kept-call (λ w. pushCall w x) (pushing x) b slots pool books (λ w. refl) e z p k
 
@@ -163,18 +163,18 @@ same-bytes b {s} {t} n e c = go (eqb n 0) refl
     go false p = rw p
 
 module _ (b : List ℕ) (w : World) where
-  drop-made : {q : Dropped} {b′ books′ : List ℕ} {n r : ℕ} → Drops (dropCall w) books′ q → Keeps (q .number) (q .state) b b′ n → r ≡ pair n (q .rows .0) → said r (memory b′ (w .slots) (w .pool) books′) ≡ coded both b (dropping w)
+  drop-made : {q : Dropped} {b′ books′ : List ℕ} {n r : ℕ} → Drops (dropCall w) books′ q → KeepsState (q .number) (q .state) b b′ n → r ≡ pair n (q .rows .0) → said r (memory b′ (w .slots) (w .pool) books′) ≡ coded both b (dropping w)
   unfolding coded dropping
   drop-made x k p =
       rw (p, k .answer-is, k .bytes-are, x .number-is, x .state-is, x .rows-are, x .books-are, drop-same w .0, drop-same w .1)
 
-  register-made : (bytes : List ℕ) (capacity : ℕ) {a : Registered} {pool′ books′ : List ℕ} {r : ℕ} → codeOf (w .state) ≡ b → Registers (registerCall w bytes capacity) pool′ books′ a → r ≡ pair (refusalOf a) (numberIn a) → said r (memory b (w .slots) pool′ books′) ≡ coded both b (registering bytes capacity w)
+  register-made : (bytes : List ℕ) (capacity : ℕ) {a : Registered} {pool′ books′ : List ℕ} {r : ℕ} → codeOf (w .state) ≡ b → RegistersCall (registerCall w bytes capacity) pool′ books′ a → r ≡ pair (refusalOf a) (numberIn a) → said r (memory b (w .slots) pool′ books′) ≡ coded both b (registering bytes capacity w)
   unfolding coded registering
   register-made bytes capacity {a} {pool′} {books′} {r} c x p =
       let y : keptAs (refusalOf (registerCall w bytes capacity .answer)) (registerCall w bytes capacity .world .state) b ≡ b = same-bytes b (refusalOf (registerCall w bytes capacity .answer)) (register-same w bytes capacity .0) c in
       rw (p, x .answer-is, x .pool-is, x .books-are, register-same w bytes capacity .1, y)
 
-  let-go-made : (i : ℕ) {books′ : List ℕ} {r : ℕ} → codeOf (w .state) ≡ b → LetsGo (letGoCall w i) books′ r → said r (memory b (w .slots) (w .pool) books′) ≡ coded number b (lettingGo i w)
+  let-go-made : (i : ℕ) {books′ : List ℕ} {r : ℕ} → codeOf (w .state) ≡ b → LetsGoCall (letGoCall w i) books′ r → said r (memory b (w .slots) (w .pool) books′) ≡ coded number b (lettingGo i w)
   unfolding coded lettingGo
   let-go-made i {books′} {r} c x =
       let y : keptAs (letGoCall w i .number) (letGoCall w i .world .state) b ≡ b = same-bytes b (letGoCall w i .number) (ap (λ (v : World). v .state) (let-go-same w i)) c in
@@ -182,16 +182,16 @@ module _ (b : List ℕ) (w : World) where
       (ap (λ (v : World). said (letGoCall w i .number) (memory b (v .slots) (v .pool) (v .books))) (sym (let-go-same w i)))
 
 module _ (b slots pool books : List ℕ) {d : Coded} (e : d ≡ decoded b) (z : d .number ≡ 0) where
-  pub drop-said : {q : Dropped} {b′ books′ : List ℕ} {n r : ℕ} → Drops (dropCall (world (d .state) slots pool books)) books′ q → Keeps (q .number) (q .state) b b′ n → r ≡ pair n (q .rows .0) → said r (memory b′ slots pool books′) ≡ called both dropping (memory b slots pool books)
+  pub drop-said : {q : Dropped} {b′ books′ : List ℕ} {n r : ℕ} → Drops (dropCall (world (d .state) slots pool books)) books′ q → KeepsState (q .number) (q .state) b b′ n → r ≡ pair n (q .rows .0) → said r (memory b′ slots pool books′) ≡ called both dropping (memory b slots pool books)
   drop-said x k p =
       drop-made b (world (d .state) slots pool books) x k p ∙ call-done both dropping b slots pool books e z refl
 
-  pub register-said : (bytes : List ℕ) (capacity : ℕ) {a : Registered} {pool′ books′ : List ℕ} {r : ℕ} → Bytes b → Registers (registerCall (world (d .state) slots pool books) bytes capacity) pool′ books′ a → r ≡ pair (refusalOf a) (numberIn a) → said r (memory b slots pool′ books′) ≡ called both (registering bytes capacity) (memory b slots pool books)
+  pub register-said : (bytes : List ℕ) (capacity : ℕ) {a : Registered} {pool′ books′ : List ℕ} {r : ℕ} → Bytes b → RegistersCall (registerCall (world (d .state) slots pool books) bytes capacity) pool′ books′ a → r ≡ pair (refusalOf a) (numberIn a) → said r (memory b slots pool′ books′) ≡ called both (registering bytes capacity) (memory b slots pool books)
   register-said bytes capacity is x p =
       register-made b (world (d .state) slots pool books) bytes capacity (decoded-code b e z is) x p
       ∙ call-done both (registering bytes capacity) b slots pool books e z refl
 
-  pub let-go-said : (i : ℕ) {books′ : List ℕ} {r : ℕ} → Bytes b → LetsGo (letGoCall (world (d .state) slots pool books) i) books′ r → said r (memory b slots pool books′) ≡ called number (lettingGo i) (memory b slots pool books)
+  pub let-go-said : (i : ℕ) {books′ : List ℕ} {r : ℕ} → Bytes b → LetsGoCall (letGoCall (world (d .state) slots pool books) i) books′ r → said r (memory b slots pool books′) ≡ called number (lettingGo i) (memory b slots pool books)
   let-go-said i is x =
       let-go-made b (world (d .state) slots pool books) i (decoded-code b e z is) x
       ∙ call-done number (lettingGo i) b slots pool books e z refl
@@ -247,7 +247,7 @@ module _ (b : List ℕ) {d : Coded} (e : d ≡ decoded b) where
   unfolding limitSet
   limit-not flag rows h = rw (← e, ne-eqb (d .number) 0 h)
 
-  pub limit-done : (flag rows : ℕ) {l : Limit} {t : BatchCoalescer} {b′ : List ℕ} {r : ℕ} → d .number ≡ 0 → l ≡ limitIn flag rows → t ≡ withLimit (d .state) l → Keeps 0 t b b′ r → told r b′ ≡ limitSet flag rows b
+  pub limit-done : (flag rows : ℕ) {l : Limit} {t : BatchCoalescer} {b′ : List ℕ} {r : ℕ} → d .number ≡ 0 → l ≡ limitIn flag rows → t ≡ withLimit (d .state) l → KeepsState 0 t b b′ r → told r b′ ≡ limitSet flag rows b
   unfolding limitSet
   limit-done flag rows z p q k = rw (k .answer-is, k .bytes-are, q, p, ← e, eq-eqb (d .number) 0 z)
 

@@ -14,7 +14,7 @@ use Rattle.coalesce.specs.PushLaws.{VerdictCase, refuses, nothing, goes, verdic
 use Rattle.finishing.specs.Finish.{answered}
 use Rattle.codes.specs.declared.Coded.{Coded}
 use Rattle.codes.specs.Code.{decoded}
-use Rattle.capi.specs.Api.{Memory, memory, said, number, Given, given, pushing, worldIn, Keeps, coded, called}
+use Rattle.capi.specs.Api.{Memory, memory, said, number, Given, given, pushing, worldIn, KeepsState, coded, called}
 use Rattle.capi.specs.ApiLaws.{called-same, call-refused, call-done}
 
 -- a call that gives an answer whatever the world
@@ -40,11 +40,11 @@ module _ (b slots pool books : List ℕ) {d : Coded} (e : d ≡ decoded b) (x : 
         is = call-refused number (making (answered (record { state = d .state; number = 0 }) slots pool books)) b slots pool books e h refl;
       }
 
-  hand-coded : {q : Step} {b′ slots′ pool′ books′ : List ℕ} {r : ℕ} → Keeps (q .number) (q .state) b b′ r → said r (memory b′ slots′ pool′ books′) ≡ coded number b (given (answered q slots′ pool′ books′))
+  hand-coded : {q : Step} {b′ slots′ pool′ books′ : List ℕ} {r : ℕ} → KeepsState (q .number) (q .state) b b′ r → said r (memory b′ slots′ pool′ books′) ≡ coded number b (given (answered q slots′ pool′ books′))
   unfolding coded
   hand-coded k = rw (k .answer-is, k .bytes-are)
 
-  pub hand-made : {q : Step} {b′ slots′ pool′ books′ : List ℕ} {r : ℕ} → d .number ≡ 0 → Promised (world (d .state) slots pool books) x q slots′ pool′ books′ → Keeps (q .number) (q .state) b b′ r → HandsOn (memory b slots pool books) x r (memory b′ slots′ pool′ books′)
+  pub hand-made : {q : Step} {b′ slots′ pool′ books′ : List ℕ} {r : ℕ} → d .number ≡ 0 → Promised (world (d .state) slots pool books) x q slots′ pool′ books′ → KeepsState (q .number) (q .state) b b′ r → HandsOn (memory b slots pool books) x r (memory b′ slots′ pool′ books′)
   unfolding making
   hand-made {q} {b′} {slots′} {pool′} {books′} {r} z j k =
       record {

@@ -15,12 +15,12 @@ use Rattle.state.specs.World.{world}
 use Rattle.rules.specs.Ranges.{inBounds, fitsSetUp}
 use Rattle.rules.specs.Calls.{Wanted, newState, setUpCall}
 use Rattle.rules.specs.CallLaws.{set-up-done, set-up-not}
-use Rattle.going.specs.TestedLaws.{bounds-say}
+use Rattle.push_safety.specs.TestedLaws.{bounds-say}
 use Rattle.columns.specs.declared.Step.{Step}
 use Rattle.set_up.specs.SetUp.{padded, wantedOf, SetsUp}
 use Rattle.crossing.specs.Cross.{kindsTo, wordsFrom}
 use Rattle.crossing.specs.CrossLaws.{kinds-at}
-use Rattle.capi.specs.Api.{memory, said, number, given, keptAs, Keeps, coded, askedFor, askable, created}
+use Rattle.capi.specs.Api.{memory, said, number, given, keptAs, KeepsState, coded, askedFor, askable, created}
 
 -- ---- is_askable
 
@@ -155,7 +155,7 @@ module _ (b slots pool books kinds : List ℕ) (target rows queue lists numbers 
           let y : length kinds ≤ 64 = asks-few (length b) (length kinds) (length pool) e t in
           rw (ks, kinds-same kinds (length kinds / 4) (omega arith))
 
-      pub new-said : {q : Step} {b′ books′ : List ℕ} {r : ℕ} → SetsUp (setUpCall (wantedOf (record { target = record { 0 = target }; rows = record { 0 = rows }; queue = queue; columns = length kinds / 4; kinds = k; lists = lists; numbers = numbers; pool = record { 0 = length pool } })) slots pool books) books′ q → Keeps (q .number) (q .state) b b′ r → said r (memory b′ slots pool books′) ≡ created (askedFor target rows queue lists numbers kinds (length pool)) kinds (memory b slots pool books)
+      pub new-said : {q : Step} {b′ books′ : List ℕ} {r : ℕ} → SetsUp (setUpCall (wantedOf (record { target = record { 0 = target }; rows = record { 0 = rows }; queue = queue; columns = length kinds / 4; kinds = k; lists = lists; numbers = numbers; pool = record { 0 = length pool } })) slots pool books) books′ q → KeepsState (q .number) (q .state) b b′ r → said r (memory b′ slots pool books′) ≡ created (askedFor target rows queue lists numbers kinds (length pool)) kinds (memory b slots pool books)
       unfolding coded
       new-said {q} {b′} {books′} {r} s h =
           let y = asks (length b) (length kinds) (length pool) e t in

@@ -4,7 +4,7 @@
 ghost use mathlib.Core.Path.{_≡_};
 ghost use lib.ListN.{length};
 ghost use Rattle.rules.specs.Batch.{batch};
-ghost use Rattle.capi.specs.Api.{memory, said, told, number, both, finishing, dropping, registering, lettingGo, Keeps, called, askedFor, askable, created};
+ghost use Rattle.capi.specs.Api.{memory, said, told, number, both, finishing, dropping, registering, lettingGo, KeepsState, called, askedFor, askable, created};
 ghost use Rattle.capi.specs.HandsOn.{HandsOn};
 ghost use Rattle.capi.specs.Api.{bufferNumber, bufferRead, rowIn, rowRead, limitSet, limitRead, rowsBuffered, completedFlag, emptyFlag};
 use counts::BufferNumber;
@@ -17,7 +17,7 @@ use state::RowAnswer;
 // The state coded where the number of a refusal is 0; hands on that number.
 fn keep(state: &mut [u8], refusal: u32, s: BatchCoalescer) -> u32
     requires { ⌜ length (now state) ≡ 304 ⌝ }
-    ensures { λ r. ⌜ Keeps refusal s (now (state .entry)) (now (state .exit)) r ⌝ }
+    ensures { λ r. ⌜ KeepsState refusal s (now (state .entry)) (now (state .exit)) r ⌝ }
 {
     if refusal == 0 {
         codes::encode(state, s);

@@ -18,7 +18,7 @@ use Rattle.rules.specs.Batch.{Batch}
 use Rattle.rules.specs.Steps.{Res, ok, refuse, inBooks}
 use Rattle.rules.specs.Push.{pushed, stepped}
 use Rattle.rules.specs.Calls.{Answered, orOld, pushCall}
-use Rattle.alike.specs.Like.{numberOf, Opens, Apart}
+use Rattle.trial_truth.specs.Like.{numberOf, ColumnOpens, OwnBlocks}
 use Rattle.trial.specs.Trial.{Restored, Answers}
 use Rattle.trial.specs.NumberLaws.{clean-tidy, restored-exact, restored-none, answers-number, answers-refuses}
 use Rattle.coalesce.specs.declared.Verdict.{Verdict}
@@ -49,10 +49,10 @@ module _ {s : BatchCoalescer} {slots pool books after : List ℕ} {b : Batch} {n
   bytes : Bytes books
   bytes = a .pushing .running .run slots pool (a .slots-are) (a .pool-is) .fit .bytes
 
-  number-before : Apart s books → numberOf (stepped w b) ≡ n
+  number-before : OwnBlocks s books → numberOf (stepped w b) ≡ n
   number-before p = answers-number t p slots pool (a .slots-are) (a .pool-is) (restored-none (s .numbers) bytes)
 
-  number-after : Apart s books → numberOf (stepped (inBooks w after) b) ≡ n
+  number-after : OwnBlocks s books → numberOf (stepped (inBooks w after) b) ≡ n
   number-after p = answers-number t p slots pool (a .slots-are) (a .pool-is) r
 
   pub does-done : {q : Step} {slots′ pool′ books′ : List ℕ} → n ≡ 0 → Steps (stepped (world s slots pool after) b) q slots′ pool′ books′ → Does (world s slots pool books) b q slots′ pool′ books′
@@ -166,7 +166,7 @@ counted-live {books} r k h l = go (isFree (entryOf books k)) refl
     go false e = e
     go true e = absurd (omega (arith, free-says (entryOf books k) e .1, r .counted k h))
 
-pub sound-orderly : (w : World) {p : ℕ} {count : ℕ → ℕ} → Sound (w .books) (w .state .numbers) p count → ((c k : ℕ) → Opens (w .state) c k → (k < w .state .numbers) × (1 ≤ count k)) → ((c d k : ℕ) → Opens (w .state) c k → Opens (w .state) d k → c ≡ d) → Orderly w
+pub sound-orderly : (w : World) {p : ℕ} {count : ℕ → ℕ} → Sound (w .books) (w .state .numbers) p count → ((c k : ℕ) → ColumnOpens (w .state) c k → (k < w .state .numbers) × (1 ≤ count k)) → ((c d k : ℕ) → ColumnOpens (w .state) c k → ColumnOpens (w .state) d k → c ≡ d) → Orderly w
 sound-orderly w r f g =
     record {
       tidy = clean-tidy (sound-clean r);

@@ -8,7 +8,7 @@ use lib.ListN.{length}
 use lib.Dec.{eqb}
 use Rattle.words.specs.WordLaws.{Bytes}
 use Rattle.columns.specs.Pushing.{Pushing}
-use Rattle.alike.specs.Like.{numberOf, Apart}
+use Rattle.trial_truth.specs.Like.{numberOf, OwnBlocks}
 use Rattle.trial.specs.Trial.{Restored, Tidy}
 use Rattle.trial.specs.Trying.{Unmarked}
 use Rattle.state.specs.declared.BatchCoalescer.{BatchCoalescer}
@@ -61,20 +61,20 @@ pub record Judged (x : Verdict) (w : World) (r : Step) (slots′ pool′ books�
 -- another for each column
 pub record Orderly (w : World) : Type 0 where
   pub tidy : Tidy (w .books) (w .state .numbers)
-  pub apart : Apart (w .state) (w .books)
+  pub apart : OwnBlocks (w .state) (w .books)
 
 -- the steps of a push that passed its tests: what they make of the books that its trial left, which are those before it but for entries of free
 -- numbers; and the number, whichever of the two books they are worked out from
 pub record Does (w : World) (b : Batch) (r : Step) (slots′ pool′ books′ : List ℕ) : Type 0 where
   pub after : List ℕ
   pub restored : Restored (w .books) after (w .state .numbers)
-  pub exact : Apart (w .state) (w .books) → answered r slots′ pool′ books′ ≡ orOld (inBooks w after) (stepped (inBooks w after) b)
-  pub number : Apart (w .state) (w .books) → r .number ≡ numberOf (stepped w b)
+  pub exact : OwnBlocks (w .state) (w .books) → answered r slots′ pool′ books′ ≡ orOld (inBooks w after) (stepped (inBooks w after) b)
+  pub number : OwnBlocks (w .state) (w .books) → r .number ≡ numberOf (stepped w b)
 
 -- push_batch: answer, state, slots, pool and books are those of the call; the number is where only the open blocks are in order; and whatever
 -- state is handed in, what its tests refuse changes nothing
 pub record Pushes (w : World) (b : Batch) (r : Step) (slots′ pool′ books′ : List ℕ) : Type 0 where
   pub exact : Orderly w → answered r slots′ pool′ books′ ≡ pushCall w b
-  pub number : Apart (w .state) (w .books) → r .number ≡ pushCall w b .number
+  pub number : OwnBlocks (w .state) (w .books) → r .number ≡ pushCall w b .number
   pub judged : Judged (verdictOf w b) w r slots′ pool′ books′
   pub done : verdictOf w b ≡ Verdict.Go → Does w b r slots′ pool′ books′

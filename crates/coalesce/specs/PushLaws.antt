@@ -15,9 +15,9 @@ use Rattle.columns.specs.Pushing.{Running, Pushing}
 use Rattle.checks.specs.Checked.{Pooled}
 use Rattle.checks.specs.RuleLaws.{pooled}
 use Rattle.pool.specs.Read.{inRange}
-use Rattle.going.specs.Run.{Run, Readable}
-use Rattle.going.specs.TestedLaws.{tested-run}
-use Rattle.going.specs.ReadLaws.{fault-readable}
+use Rattle.push_safety.specs.Run.{Run, Readable}
+use Rattle.push_safety.specs.TestedLaws.{tested-run}
+use Rattle.push_safety.specs.ReadLaws.{fault-readable}
 use Rattle.ranges.specs.SaysLaws.{says-range, says-pool, says-entries, says-slots, says-buffered}
 use Rattle.state.specs.declared.BatchCoalescer.{BatchCoalescer}
 use Rattle.state.specs.World.{World, world}
@@ -152,7 +152,7 @@ turn Verdict.Go = 0
 turn Verdict.Nothing = 1
 turn (Verdict.Refused n) = 2
 
-pub record Goes (w : World) (b : Batch) : Type 0 where
+pub record MayGoOn (w : World) (b : Batch) : Type 0 where
   pub passed : tested w ≡ 0
   pub some : b .rows ≢ 0
   pub faultless : batchFault w b ≡ none
@@ -162,7 +162,7 @@ module _ (w : World) (b : Batch) where
   pub data VerdictCase : Type 0 where
     refuses : (n : ℕ) → verdictOf w b ≡ Verdict.Refused n → pushed w b ≡ refuse n → VerdictCase
     nothing : verdictOf w b ≡ Verdict.Nothing → pushed w b ≡ ok w → VerdictCase
-    goes : verdictOf w b ≡ Verdict.Go → Goes w b → pushed w b ≡ stepped w b → VerdictCase
+    goes : verdictOf w b ≡ Verdict.Go → MayGoOn w b → pushed w b ≡ stepped w b → VerdictCase
 
   pub verdict-case : VerdictCase
   unfolding verdictOf pushed
@@ -176,10 +176,10 @@ module _ (w : World) (b : Batch) where
       go (yes p) (no q) (some f) x =
           refuses (f .number) (rw (p, ne-eqb (b .rows) 0 q, x)) (rw (p, ne-eqb (b .rows) 0 q, x, pushed))
 
-  pub verdict-go : verdictOf w b ≡ Verdict.Go → Goes w b
+  pub verdict-go : verdictOf w b ≡ Verdict.Go → MayGoOn w b
   verdict-go e = go verdict-case
     where
-      go : VerdictCase → Goes w b
+      go : VerdictCase → MayGoOn w b
       go (refuses n x y) = let q : _≡_ {A = ℕ} 2 0 = ap turn (sym x ∙ e) in absurd (omega arith)
       go (nothing x y) = let q : _≡_ {A = ℕ} 1 0 = ap turn (sym x ∙ e) in absurd (omega arith)
       go (goes x g y) = g

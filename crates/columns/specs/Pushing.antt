@@ -8,7 +8,7 @@ use Rattle.state.specs.declared.BatchCoalescer.{BatchCoalescer}
 use Rattle.state.specs.World.{world}
 use Rattle.state.specs.Layout.{slotsLength}
 use Rattle.rules.specs.Batch.{Batch}
-use Rattle.going.specs.Run.{Run, Readable}
+use Rattle.push_safety.specs.Run.{Run, Readable}
 
 -- state and books are in order
 pub record Running (s : BatchCoalescer) (books : List ℕ) : Type 0 where

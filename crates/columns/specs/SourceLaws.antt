@@ -19,9 +19,9 @@ use Rattle.rules.specs.Steps.{counting, listing}
 use Rattle.rules.specs.Views.{filling, blockNumber, isOpen, openNumber, openFilled, openRest, closed}
 use Rattle.byte_view.specs.declared.Source.{Source}
 use Rattle.byte_view.specs.Copying.{Entered}
-use Rattle.going.specs.Run.{Run, Readable}
-use Rattle.going.specs.CallerLaws.{run-bounds, count-room, record-room, listed-entry}
-use Rattle.going.specs.BlockGoes.{open-room}
+use Rattle.push_safety.specs.Run.{Run, Readable}
+use Rattle.push_safety.specs.CallerLaws.{run-bounds, count-room, record-room, listed-entry}
+use Rattle.push_safety.specs.BlockGoes.{open-room}
 use Rattle.columns.specs.Column.{sourceFor, closedLength, Sourceable}
 
 -- the bounds of set-up, as the formulas ask them

@@ -30,7 +30,7 @@ use Rattle.rules.specs.Steps.{each, counting, withCounts}
 use Rattle.rules.specs.Calls.{listDropped, uncounted, dropped, dropCall}
 use Rattle.rules.specs.CallLaws.{drop-tested, drop-empty, drop-front}
 use Rattle.completed.specs.declared.Dropped.{Dropped}
-use Rattle.ranges.specs.Passed.{Passed, passed-few, passed-slots, passed-books}
+use Rattle.ranges.specs.Passed.{PassedTests, passed-few, passed-slots, passed-books}
 use Rattle.completed.specs.Drop.{listOff, listsOff, countsOff, Droppable, DropsFront, Drops}
 
 -- ---- unlisting leaves what stands behind the entries, and no more numbers in use
@@ -55,7 +55,7 @@ all-off {s} {n} l (suc count) r below =
 -- ---- a state that passed its tests can be dropped from
 
 module _ (s : BatchCoalescer) (slots books : List ℕ) (slot : ℕ) where
-  pub droppable : Passed s slots books → slot ≤ s .queue → Bytes books → Droppable s slots books slot
+  pub droppable : PassedTests s slots books → slot ≤ s .queue → Bytes books → Droppable s slots books slot
   droppable p h b =
       record {
         few = passed-few s slots books p;

@@ -9,7 +9,7 @@ ghost use Rattle.layout.specs.Few.{Few};
 ghost use Rattle.rules.specs.Batch.{batch};
 ghost use Rattle.rules.specs.Ranges.{tested};
 ghost use Rattle.rules.specs.Calls.{dropCall};
-ghost use Rattle.ranges.specs.Passed.{Passed};
+ghost use Rattle.ranges.specs.Passed.{PassedTests};
 ghost use Rattle.completed.specs.Drop.{listOff, listsOff, countsOff, Droppable, DropsFront, Drops};
 use counts::RowCount;
 use state::BatchCoalescer;
@@ -67,7 +67,7 @@ fn uncount(s: BatchCoalescer, books: &mut [u8], slot: u32)
 
 // The front batch dropped, where there is one.
 fn drop_front(s: BatchCoalescer, slots: &[u8], books: &mut [u8]) -> Dropped
-    requires { ⌜ (Passed s (now slots) (now books)) × (1 ≤ s .queued) ⌝ }
+    requires { ⌜ (PassedTests s (now slots) (now books)) × (1 ≤ s .queued) ⌝ }
     ensures { λ r. ⌜ DropsFront s (now (slots .entry)) (now (books .entry)) (now (books .exit)) r ⌝ }
 {
     let slot = layout::front_slot(s);

@@ -10,7 +10,7 @@ use Rattle.state.specs.Layout.{isViews, slotsLength}
 use Rattle.rules.specs.Steps.{Res, each}
 use Rattle.rules.specs.Views.{closed}
 use Rattle.rules.specs.Calls.{Answered, orOld}
-use Rattle.going.specs.Along.{Along}
+use Rattle.push_safety.specs.Along.{Along}
 use Rattle.columns.specs.declared.Step.{Step}
 use Rattle.open_blocks.specs.Open.{Booked}
 

@@ -19,12 +19,12 @@ use Rattle.rules.specs.Calls.{orOld}
 use Rattle.rules.specs.Push.{allClosed, finished, ifFull}
 use Rattle.rules.specs.StepLaws.{finished-none, finished-nine, finished-queues, full-finishes, full-not}
 use Rattle.rules.specs.PartLaws.{closed-beside}
-use Rattle.going.specs.Run.{Run}
-use Rattle.going.specs.BlockGoes.{closed-goes}
-use Rattle.going.specs.Along.{Along, along-refl, along-trans, along-in}
+use Rattle.push_safety.specs.Run.{Run}
+use Rattle.push_safety.specs.BlockGoes.{closed-goes}
+use Rattle.push_safety.specs.Along.{Along, along-refl, along-trans, along-in}
 use Rattle.columns.specs.declared.Step.{Step}
 use Rattle.columns.specs.Pushing.{Running}
-use Rattle.open_blocks.specs.Open.{Ready, Closes}
+use Rattle.open_blocks.specs.Open.{FillingViews, ClosesBlock}
 use Rattle.open_blocks.specs.AskLaws.{zeros, length-zeros, run-booked, booked-few, booked-place, booked-books}
 use Rattle.open_blocks.specs.AskLaws.{running-booked, ready-at}
 use Rattle.finishing.specs.Finish.{Closable, close, ClosesOne, ClosesAll, Finishes}
@@ -44,10 +44,10 @@ module _ {s : BatchCoalescer} {slots books : List ℕ} {c : ℕ} where
   pub one-inside : Closable s slots books → c < s .columns → c < 16
   one-inside x h = omega (arith, booked-few (x .booked) .columns)
 
-  pub one-ready : {v : Bool} → Closable s slots books → c < s .columns → v ≡ isViews s c → v ≡ true → Ready s slots books c
+  pub one-ready : {v : Bool} → Closable s slots books → c < s .columns → v ≡ isViews s c → v ≡ true → FillingViews s slots books c
   one-ready x h e y = ready-at (x .booked) (x .slots-are) h (sym e ∙ y)
 
-  pub one-views : {v : Bool} {t : BatchCoalescer} {slots′ books′ : List ℕ} → v ≡ isViews s c → v ≡ true → Closes s slots books c t slots′ books′ → ClosesOne s slots books c t slots′ books′
+  pub one-views : {v : Bool} {t : BatchCoalescer} {slots′ books′ : List ℕ} → v ≡ isViews s c → v ≡ true → ClosesBlock s slots books c t slots′ books′ → ClosesOne s slots books c t slots′ books′
   one-views {v} e y k = record { is = λ pool. go pool ∙ k .is pool }
     where
       go : (pool : List ℕ) → close (world s slots pool books) c ≡ closed (world s slots pool books) c

@@ -17,14 +17,14 @@ use Rattle.rules.specs.Calls.{orOld, pushCall, dropCall}
 use Rattle.rules.specs.Held.{Among, among-not, Holds, held, refused}
 use Rattle.rules.specs.CallLaws.{finish-steps, drop-empty, drop-front}
 use Rattle.rules.specs.RegisterLaws.{register-steps, let-go-steps}
-use Rattle.holding.specs.Holding.{Between}
-use Rattle.holding.specs.After.{After}
-use Rattle.holding.specs.FinishAfter.{Finishes, finished-after}
-use Rattle.holding.specs.PushAfter.{Pushes, refusals, pushed-after}
-use Rattle.holding.specs.Tested.{between-tested}
-use Rattle.holding.specs.MemoryAfter.{Same, same-self, let-go-same, register-same}
-use Rattle.holding.specs.LimitAfter.{limit-same}
-use Rattle.holding.specs.DropAfter.{drop-between, drop-batches, drop-rows, drop-bytes}
+use Rattle.invariant.specs.Holding.{Between}
+use Rattle.invariant.specs.Calls.After.{After}
+use Rattle.invariant.specs.Calls.FinishAfter.{QueuesBuffered, finished-after}
+use Rattle.invariant.specs.Calls.PushAfter.{RowsBehind, refusals, pushed-after}
+use Rattle.invariant.specs.Calls.Tested.{between-tested}
+use Rattle.invariant.specs.Calls.MemoryAfter.{SameRows, same-self, let-go-same, register-same}
+use Rattle.invariant.specs.Calls.LimitAfter.{limit-same}
+use Rattle.invariant.specs.Calls.DropAfter.{drop-between, drop-batches, drop-rows, drop-bytes}
 use Rattle.history.specs.Call.{Call, push, finish, drop, register, letGo, limit, read, ifDone, front, step}
 use Rattle.history.specs.Law.{Law}
 
@@ -32,7 +32,7 @@ use Rattle.history.specs.Law.{Law}
 after-law : {w v : World} {rows : List Row} → Between v → After w rows v → (Bytes (w .slots) → Bytes (v .slots)) → Law w (record { world = v; accepted = rows; taken = [] })
 after-law g a b = record { between = g; made = a .made; batches = a .batches; rows = a .rows; bytes = b }
 
-same-law : {w v : World} → Same w v → Law w (record { world = v; accepted = []; taken = [] })
+same-law : {w v : World} → SameRows w v → Law w (record { world = v; accepted = []; taken = [] })
 unfolding joined
 same-law {w} {v} s =
     record {
@@ -45,7 +45,7 @@ same-law {w} {v} s =
 
 -- ---- push and finish
 
-push-result : {w : World} (rows : List Row) (r : Res) → Between w → Holds (Pushes w rows) (Among refusals) r → Law w (record { world = orOld w r .world; accepted = ifDone (orOld w r .number) rows; taken = [] })
+push-result : {w : World} (rows : List Row) (r : Res) → Between w → Holds (RowsBehind w rows) (Among refusals) r → Law w (record { world = orOld w r .world; accepted = ifDone (orOld w r .number) rows; taken = [] })
 push-result rows (ok v) g (held p) = after-law (p .between) (p .after) (p .bytes)
 push-result {w} rows (refuse n) g (refused m) = go n (among-not 0 refl m)
   where
@@ -53,7 +53,7 @@ push-result {w} rows (refuse n) g (refused m) = go n (among-not 0 refl m)
     go zero d = absurd (d refl)
     go (suc n) d = same-law (same-self g)
 
-finish-result : {w : World} (r : Res) → Between w → Holds (Finishes w) (Among (9 ∷ [])) r → Law w (record { world = orOld w r .world; accepted = []; taken = [] })
+finish-result : {w : World} (r : Res) → Between w → Holds (QueuesBuffered w) (Among (9 ∷ [])) r → Law w (record { world = orOld w r .world; accepted = []; taken = [] })
 finish-result (ok v) g (held p) = after-law (p .between) (p .after) (p .along .bytes)
 finish-result (refuse n) g (refused m) = same-law (same-self g)
 

@@ -15,7 +15,7 @@ use Rattle.state.specs.World.{World}
 use Rattle.state.specs.Layout.{widthOf, isViews}
 use Rattle.state.specs.Rows.{null, value, Row, upTo, cellOf, slotCell, slotRow, slotRows}
 use Rattle.rules.specs.Batch.{Batch, rowBit, rowView, listedBytes, valuePlace, batchCell, batchRow, batchRows}
-use Rattle.holding.specs.RowLaws.{length-upTo}
+use Rattle.invariant.specs.RowLaws.{length-upTo}
 
 -- the element at place i
 at-upTo {ℓ} : {A : Type ℓ} (n : ℕ) (f : ℕ → A) (d : A) (i : ℕ) → i < n → getD (upTo n f) i d ≡ f i

@@ -9,8 +9,8 @@ use Rattle.state.specs.World.{World}
 use Rattle.state.specs.Rows.{Row, joined, queuedBatches, queuedRows, bufferedRows}
 use Rattle.rules.specs.Batch.{Batch, batchRows}
 use Rattle.rules.specs.Calls.{Wanted, setUpCall, pushCall}
-use Rattle.holding.specs.Holding.{Between}
-use Rattle.holding.specs.RowLaws.{joined-append, length-batches}
+use Rattle.invariant.specs.Holding.{Between}
+use Rattle.invariant.specs.RowLaws.{joined-append, length-batches}
 use Rattle.history.specs.Call.{OfBytes, Call, push, ifDone, step, run}
 use Rattle.history.specs.CallLaws.{call-law}
 use Rattle.history.specs.History.{histories, did, in-order}

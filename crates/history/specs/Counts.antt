@@ -15,10 +15,10 @@ use Rattle.state.specs.Layout.{rowsIn, queuedSlot}
 use Rattle.state.specs.Rows.{upTo, joined, frontSlot, slotRows, takenRows, queuedBatches, queuedRows, bufferedRows}
 use Rattle.rules.specs.Calls.{Wanted, setUpCall, dropCall, bufferedCount, hasCompleted, isEmpty}
 use Rattle.rules.specs.CallLaws.{drop-empty, drop-front}
-use Rattle.holding.specs.Holding.{Between}
-use Rattle.holding.specs.RowLaws.{upTo-first, length-rows, length-batches}
-use Rattle.holding.specs.After.{rows-are}
-use Rattle.holding.specs.Tested.{between-tested}
+use Rattle.invariant.specs.Holding.{Between}
+use Rattle.invariant.specs.RowLaws.{upTo-first, length-rows, length-batches}
+use Rattle.invariant.specs.Calls.After.{rows-are}
+use Rattle.invariant.specs.Calls.Tested.{between-tested}
 use Rattle.history.specs.Call.{Call, drop, front, step}
 use Rattle.history.specs.Law.{content}
 use Rattle.history.specs.History.{did, in-order}

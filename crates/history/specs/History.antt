@@ -11,11 +11,11 @@ use Rattle.rules.specs.Ranges.{tested}
 use Rattle.rules.specs.Calls.{Answered, Wanted, newState, setUpCall}
 use Rattle.rules.specs.CallLaws.{set-up-zero, set-up-done, push-stays, finish-stays, drop-stays}
 use Rattle.rules.specs.RegisterLaws.{register-stays, let-go-stays}
-use Rattle.holding.specs.Holding.{Between}
-use Rattle.holding.specs.RowLaws.{length-rows}
-use Rattle.holding.specs.After.{rows-are}
-use Rattle.holding.specs.Tested.{between-tested}
-use Rattle.holding.specs.SetUpAfter.{Starts, set-up-begins}
+use Rattle.invariant.specs.Holding.{Between}
+use Rattle.invariant.specs.RowLaws.{length-rows}
+use Rattle.invariant.specs.Calls.After.{rows-are}
+use Rattle.invariant.specs.Calls.Tested.{between-tested}
+use Rattle.invariant.specs.Calls.SetUpAfter.{Starts, set-up-begins}
 use Rattle.history.specs.Call.{Call, push, finish, drop, register, letGo, limit, read, Did, step, run}
 use Rattle.history.specs.Law.{Law, content, law-rows, run-law}
 use Rattle.history.specs.CallLaws.{call-law}

@@ -4,8 +4,8 @@ use mathlib.Core.List.{List, [], _∷_, _++_, append-assoc, append-nil}
 use Rattle.words.specs.WordLaws.{Bytes}
 use Rattle.state.specs.World.{World}
 use Rattle.state.specs.Rows.{Row, joined, queuedBatches, queuedRows, bufferedRows}
-use Rattle.holding.specs.Holding.{Between}
-use Rattle.holding.specs.RowLaws.{joined-append}
+use Rattle.invariant.specs.Holding.{Between}
+use Rattle.invariant.specs.RowLaws.{joined-append}
 use Rattle.history.specs.Call.{Call, Did, step, run}
 
 -- what a call does: the batches taken and those still queued are those queued before and those made since; and the rows buffered and those

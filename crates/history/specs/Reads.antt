@@ -26,10 +26,10 @@ use Rattle.state.specs.SlotLaws.{queued-in, queued-place}
 use Rattle.state.specs.Rows.{null, value, listedAt, bufferAt, cellOf, slotCell, frontSlot, takenRows}
 use Rattle.rules.specs.CallLaws.{set-up-zero, set-up-done}
 use Rattle.rules.specs.Calls.{Answered, Wanted, setUpCall, viewAnswer, valueAnswer, isRow, readRow, readAs}
-use Rattle.holding.specs.Holding.{reach, Between}
-use Rattle.holding.specs.Rests.{reach-other, buffer-number, number-listed}
-use Rattle.holding.specs.MoveLaws.{rows-other}
-use Rattle.holding.specs.Tested.{between-tested}
+use Rattle.invariant.specs.Holding.{reach, Between}
+use Rattle.invariant.specs.Rests.{reach-other, buffer-number, number-listed}
+use Rattle.invariant.specs.Steps.MoveLaws.{rows-other}
+use Rattle.invariant.specs.Calls.Tested.{between-tested}
 use Rattle.history.specs.Call.{Call}
 use Rattle.history.specs.History.{did, all}
 use Rattle.history.specs.Cells.{slot-cell-at}

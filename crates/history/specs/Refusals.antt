@@ -16,10 +16,10 @@ use Rattle.rules.specs.Calls.{Answered, RegisterAnswer, pushCall, finishCall, d
 use Rattle.rules.specs.CallLaws.{old-among, finish-steps, drop-number}
 use Rattle.rules.specs.RegisterLaws.{LetGoCase, let-go-case, register-steps}
 use Rattle.rules.specs.PartLaws.{chosen-among}
-use Rattle.holding.specs.Holding.{Between}
-use Rattle.holding.specs.FinishAfter.{finished-after}
-use Rattle.holding.specs.PushAfter.{refusals, pushed-after}
-use Rattle.holding.specs.Tested.{between-tested}
+use Rattle.invariant.specs.Holding.{Between}
+use Rattle.invariant.specs.Calls.FinishAfter.{finished-after}
+use Rattle.invariant.specs.Calls.PushAfter.{refusals, pushed-after}
+use Rattle.invariant.specs.Calls.Tested.{between-tested}
 use Rattle.history.specs.Call.{OfBytes}
 use native.Mathlib.Omega.{arith}
 

@@ -17,13 +17,13 @@ use Rattle.rules.specs.PartLaws.{closed-beside, opened-holds, views-holds}
 use Rattle.state.specs.declared.BatchCoalescer.{BatchCoalescer}
 use Rattle.state.specs.World.{World, world}
 use Rattle.state.specs.Layout.{valuesPlace}
-use Rattle.going.specs.BooksGo.{go-refl}
-use Rattle.going.specs.Firm.{run-firm, within-goes}
-use Rattle.going.specs.BlockGoes.{closed-goes}
-use Rattle.going.specs.OpenGoes.{opened-anew, compacted-goes}
-use Rattle.going.specs.Along.{Along, along-in, along-views}
-use Rattle.going.specs.SumLaws.{before-more, part-ideal}
-use Rattle.in_progress.specs.Part.{Part, ViewPart, AnyPart, Fits, firstRows, rowsBehind, longOf, compacting}
+use Rattle.push_safety.specs.BooksGo.{go-refl}
+use Rattle.push_safety.specs.Firm.{run-firm, within-goes}
+use Rattle.push_safety.specs.BlockGoes.{closed-goes}
+use Rattle.push_safety.specs.OpenGoes.{opened-anew, compacted-goes}
+use Rattle.push_safety.specs.Along.{Along, along-in, along-views}
+use Rattle.push_safety.specs.SumLaws.{before-more, part-ideal}
+use Rattle.in_progress.specs.Part.{Part, ViewPart, AnyPart, RoomInOpen, firstRows, rowsBehind, longOf, compacting}
 
 -- ---- from one world to a later one
 
@@ -105,13 +105,13 @@ module _ {w : World} {b : Batch} {r : ColumnRecord} {p : Rows} (x : ViewPart w b
       record { goes = closed-goes w (p .column) (x .part .run) (x .part .column) (x .views); beside = closed-beside w (p .column) }
 
   -- a new block has room for what it was opened for
-  pub opened-fits : (min : ℕ) (v : World) → blockOpened w (p .column) min ≡ ok v → longOf w b p ≤ min → Fits v b r p
+  pub opened-fits : (min : ℕ) (v : World) → blockOpened w (p .column) min ≡ ok v → longOf w b p ≤ min → RoomInOpen v b r p
   opened-fits min v e l =
       let o = holds-ok v (opened-anew w (p .column) min (x .part .run) (x .part .column) (x .views)) e in
       let a : Along w v = record { goes = o .goes; beside = holds-ok v (opened-holds w (p .column) min) e } in
       record { part = views-on a x; is-open = o .is-open; rest = omega (arith, o .rest, long-on b p a) }
 
-pub compacted-along : {w : World} {b : Batch} {r : ColumnRecord} {p : Rows} (v : World) → Fits w b r p → compacting w b p ≡ ok v → Along w v
+pub compacted-along : {w : World} {b : Batch} {r : ColumnRecord} {p : Rows} (v : World) → RoomInOpen w b r p → compacting w b p ≡ ok v → Along w v
 unfolding compacting longOf
 compacted-along {w} {b} {r} {p} v x e =
     record {

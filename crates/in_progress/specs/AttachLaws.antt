@@ -30,10 +30,10 @@ use Rattle.layout.specs.PlaceLaws.{list-below}
 use Rattle.columns.specs.Step.{steps-done, steps-refused}
 use Rattle.columns.specs.Column.{closedLength}
 use Rattle.columns.specs.SourceLaws.{list-same, closed-answer, list-within}
-use Rattle.going.specs.CallerLaws.{run-bounds, cells-room, values-room, long-index, list-listed}
-use Rattle.going.specs.Along.{Along}
-use Rattle.open_blocks.specs.Open.{Ready, Closes}
-use Rattle.in_progress.specs.Part.{ViewPart, AnyPart, Listable, Attaches, AttachesPart, Raises}
+use Rattle.push_safety.specs.CallerLaws.{run-bounds, cells-room, values-room, long-index, list-listed}
+use Rattle.push_safety.specs.Along.{Along}
+use Rattle.open_blocks.specs.Open.{FillingViews, ClosesBlock}
+use Rattle.in_progress.specs.Part.{ViewPart, AnyPart, Listable, Attaches, AttachesPart, RaisesPart}
 use Rattle.open_blocks.specs.AskLaws.{zeros, length-zeros, run-booked}
 use Rattle.in_progress.specs.AskLaws.{part-few, part-slot, part-books, part-column, part-place, part-at}
 use Rattle.in_progress.specs.AlongLaws.{views-on, closed-along}
@@ -150,7 +150,7 @@ module _ {s : BatchCoalescer} {slots books records body : List ℕ} {rows : ℕ}
   pub any-within : listLength (world s [] [] books) (s .place) (p .column) ≤ s .lists
   any-within = list-within s slots pool books (p .column) (x .part .run) (x .part .column)
 
-  pub any-ready : Ready s slots books (p .column)
+  pub any-ready : FillingViews s slots books (p .column)
   any-ready =
       record { booked = run-booked (x .part .run); slots-are = x .part .run .fit .slots-are; column = x .part .column; views = x .views }
 
@@ -206,7 +206,7 @@ module _ {s : BatchCoalescer} {slots books records body : List ℕ} {rows : ℕ}
             empty = λ y. list-same s slots pool books (p .column) (s .place) ∙ x .part .run .none (s .place) (p .column) (part-slot (x .part)) (x .part .column) y;
           }
 
-      pub raise-done : {slots′ slots″ books′ : List ℕ} → Attaches s slots books d (p .column) slots′ books′ → slots″ ≡ viewsPut (λ i. raisedBy k (viewsAt body (r .values + p .from * 16) i)) slots′ (p .place + p .at * 16) (p .count) → Raises s slots books d k p slots″ books′
+      pub raise-done : {slots′ slots″ books′ : List ℕ} → Attaches s slots books d (p .column) slots′ books′ → slots″ ≡ viewsPut (λ i. raisedBy k (viewsAt body (r .values + p .from * 16) i)) slots′ (p .place + p .at * 16) (p .count) → RaisesPart s slots books d k p slots″ books′
       raise-done {slots′} {slots″} {books′} t u = record { is = λ y. go y }
         where
           views : (y : List ℕ) → viewsRaised (world s slots′ y books′) d (p .column) k (p .at) (p .from) (p .count) ≡ world s slots″ y books′
@@ -237,7 +237,7 @@ module _ {s : BatchCoalescer} {slots books records body : List ℕ} {rows : ℕ}
   pub attach-full : s .lists < n + r .count → AttachesPart s slots books g p (record { state = s; number = 10 }) slots books
   attach-full h = record { steps = λ pool l. steps-refused (λ z. omega arith) (refuses h pool l) }
 
-  module _ (h : n + r .count ≤ s .lists) {t : BatchCoalescer} {slots′ books′ : List ℕ} (c : Closes s slots books (p .column) t slots′ books′) where
+  module _ (h : n + r .count ≤ s .lists) {t : BatchCoalescer} {slots′ books′ : List ℕ} (c : ClosesBlock s slots books (p .column) t slots′ books′) where
     attaches : (pool : List ℕ) → length pool ≡ s .pool .0 → partAttached (world s slots pool books) g (p .column) (p .at) (p .from) (p .count) ≡ ok (viewsRaised (listAttached (world t slots′ pool books′) g (p .column)) g (p .column) n (p .at) (p .from) (p .count))
     unfolding partAttached
     attaches pool l = rw (closed-list pool l, counted, le-leb (n + r .count) (s .lists) h, c .is pool)
@@ -267,5 +267,5 @@ module _ {s : BatchCoalescer} {slots books records body : List ℕ} {rows : ℕ}
         ∙ sym (list-same t slots′ some books′ (p .column) (s .place))
         ∙ ap (λ (k : ℕ). listLength (world t [] [] books′) k (p .column)) (sym (same .beside .place))
 
-    pub attach-done : {slots″ books″ : List ℕ} → Raises t slots′ books′ g n p slots″ books″ → AttachesPart s slots books g p (record { state = t; number = 0 }) slots″ books″
+    pub attach-done : {slots″ books″ : List ℕ} → RaisesPart t slots′ books′ g n p slots″ books″ → AttachesPart s slots books g p (record { state = t; number = 0 }) slots″ books″
     attach-done z = record { steps = λ pool l. steps-done (attaches pool l ∙ ap ok (z .is pool)) }

@@ -17,10 +17,10 @@ use Rattle.state.specs.World.{World, world}
 use Rattle.state.specs.Layout.{isViews, valuesPlace, listLength}
 use Rattle.columns.specs.Column.{sourceFor}
 use Rattle.columns.specs.SourceLaws.{source-way, source-ideal, list-same}
-use Rattle.going.specs.Run.{Run, Readable}
-use Rattle.going.specs.TestedLaws.{bounds-say}
-use Rattle.going.specs.AttachGoes.{listed-length, listed-used}
-use Rattle.going.specs.Firm.{Firm}
+use Rattle.push_safety.specs.Run.{Run, Readable}
+use Rattle.push_safety.specs.TestedLaws.{bounds-say}
+use Rattle.push_safety.specs.AttachGoes.{listed-length, listed-used}
+use Rattle.push_safety.specs.Firm.{Firm}
 use Rattle.in_progress.specs.Part.{Part, Listable, Decided, copiedBy}
 
 -- n rows of column c of the batch from row `from` on, behind those buffered

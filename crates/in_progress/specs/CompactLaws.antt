@@ -26,12 +26,12 @@ use Rattle.state.specs.LayoutLaws.{views-width}
 use Rattle.columns.specs.declared.Step.{Step}
 use Rattle.columns.specs.Step.{Steps, steps-done, steps-next, steps-stop}
 use Rattle.columns.specs.SourceLaws.{rest-answer}
-use Rattle.going.specs.Along.{Along}
-use Rattle.going.specs.BlockGoes.{open-entry}
-use Rattle.going.specs.CallerLaws.{run-bounds, values-room}
-use Rattle.going.specs.SumLaws.{walked-most, walked-rest}
-use Rattle.open_blocks.specs.Open.{Booked, Ready, Closes, Opens}
-use Rattle.in_progress.specs.Part.{ViewPart, Fits, Walks, firstRows, rowsBehind, longOf, compacting, openedFor, walkedOf, walkedOn}
+use Rattle.push_safety.specs.Along.{Along}
+use Rattle.push_safety.specs.BlockGoes.{open-entry}
+use Rattle.push_safety.specs.CallerLaws.{run-bounds, values-room}
+use Rattle.push_safety.specs.SumLaws.{walked-most, walked-rest}
+use Rattle.open_blocks.specs.Open.{Booked, FillingViews, ClosesBlock, OpensBlock}
+use Rattle.in_progress.specs.Part.{ViewPart, RoomInOpen, Walks, firstRows, rowsBehind, longOf, compacting, openedFor, walkedOf, walkedOn}
 use Rattle.open_blocks.specs.AskLaws.{run-booked}
 use Rattle.in_progress.specs.AlongLaws.{views-on, long-on, first-part, behind-part, long-both, long-ideal, closed-along, opened-fits, compacted-along}
 
@@ -44,15 +44,15 @@ module _ {s : BatchCoalescer} {slots pool books : List ℕ} {b : Batch} {r : Col
   pub part-booked : (Booked s books) × (p .column < s .columns) × (Rattle.state.specs.Layout.isViews s (p .column) ≡ true)
   part-booked = (run-booked (x .part .run), x .part .column, x .views)
 
-  pub part-ready : Ready s slots books (p .column)
+  pub part-ready : FillingViews s slots books (p .column)
   part-ready =
       record { booked = run-booked (x .part .run); slots-are = x .part .run .fit .slots-are; column = x .part .column; views = x .views }
 
-  module _ {min : ℕ} (l : longOf w b p ≤ min) {q : Step} {books′ : List ℕ} (o : Opens s books (p .column) min q books′) where
+  module _ {min : ℕ} (l : longOf w b p ≤ min) {q : Step} {books′ : List ℕ} (o : OpensBlock s books (p .column) min q books′) where
     step : Steps (blockOpened w (p .column) min) q slots pool books′
     step = o .steps slots pool (x .part .run .fit .pool-is)
 
-    pub next-fits : q .number ≡ 0 → Fits (world (q .state) slots pool books′) b r p
+    pub next-fits : q .number ≡ 0 → RoomInOpen (world (q .state) slots pool books′) b r p
     next-fits e = opened-fits x min (world (q .state) slots pool books′) (step .done e) l
 
     pub next-copied : {slots′ pool′ books″ : List ℕ} → q .number ≡ 0 → compacting (world (q .state) slots pool books′) b p ≡ ok (world (q .state) slots′ pool′ books″) → Steps (openedFor w b min p) (record { state = q .state; number = 0 }) slots′ pool′ books″
@@ -65,7 +65,7 @@ module _ {s : BatchCoalescer} {slots pool books : List ℕ} {b : Batch} {r : Col
 
 -- ---- move_and_copy
 
-module _ {s : BatchCoalescer} {slots pool books : List ℕ} {b : Batch} {r : ColumnRecord} {p : Rows} (x : ViewPart (world s slots pool books) b r p) {t : BatchCoalescer} {slots′ books′ : List ℕ} (c : Closes s slots books (p .column) t slots′ books′) where
+module _ {s : BatchCoalescer} {slots pool books : List ℕ} {b : Batch} {r : ColumnRecord} {p : Rows} (x : ViewPart (world s slots pool books) b r p) {t : BatchCoalescer} {slots′ books′ : List ℕ} (c : ClosesBlock s slots books (p .column) t slots′ books′) where
   shut : Along (world s slots pool books) (world t slots′ pool books′)
   shut = rw (c .is pool) at (closed-along x)
 
@@ -134,7 +134,7 @@ module _ {s : BatchCoalescer} {slots pool books records body : List ℕ} {rows :
     fit = rw (walk-rows) (omega (arith, walked-rest v b (p .column) (p .from) (p .count) rest, x .rest-is))
 
     module _ {first behind : Rows} (f : first ≡ firstRows p (k .rows)) (g : behind ≡ rowsBehind p (k .rows)) where
-      pub walk-fits : Fits v b r first
+      pub walk-fits : RoomInOpen v b r first
       walk-fits = rw f (record { part = first-part (x .part) (k .rows) most; is-open = x .is-open; rest = fit })
 
       module _ {slots′ pool′ books′ : List ℕ} (o : compacting v b first ≡ ok (world s slots′ pool′ books′)) where
@@ -186,7 +186,7 @@ module _ {s : BatchCoalescer} {slots pool books : List ℕ} {b : Batch} {r : Col
       rest-at : rest ≡ openRest u (p .column)
       rest-at = rest-answer s slots pool books (p .column) (sym (ap (λ (z : Column). z .block) e) ∙ q) m
 
-      pub compact-fits : n ≤ rest → Fits u b r p
+      pub compact-fits : n ≤ rest → RoomInOpen u b r p
       compact-fits h = record { part = x; is-open = open-is q; rest = omega (arith, compact-long, rest-at) }
 
       pub compact-walks : rest < n → Walks u b r p n rest

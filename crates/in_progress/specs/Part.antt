@@ -18,7 +18,7 @@ use Rattle.state.specs.Layout.{isViews, valuesPlace, slotsLength, booksLength, 
 use Rattle.layout.specs.Few.{Few}
 use Rattle.columns.specs.declared.Step.{Step}
 use Rattle.columns.specs.Step.{Steps}
-use Rattle.going.specs.Run.{Run, Readable}
+use Rattle.push_safety.specs.Run.{Run, Readable}
 
 -- ---- rows
 
@@ -75,7 +75,7 @@ pub record AnyPart (s : BatchCoalescer) (slots books : List ℕ) (b : Batch) (r 
   pub any : (pool : List ℕ) → length pool ≡ s .pool .0 → ViewPart (world s slots pool books) b r p
 
 -- the part's bytes have room in the open block
-pub record Fits (w : World) (b : Batch) (r : ColumnRecord) (p : Rows) : Type 0 where
+pub record RoomInOpen (w : World) (b : Batch) (r : ColumnRecord) (p : Rows) : Type 0 where
   pub part : ViewPart w b r p
   pub is-open : isOpen w (p .column) ≡ true
   pub rest : longOf w b p ≤ openRest w (p .column)
@@ -116,5 +116,5 @@ pub record AttachesPart (s : BatchCoalescer) (slots books : List ℕ) (b : Batch
   pub steps : (pool : List ℕ) → length pool ≡ s .pool .0 → Steps (partAttached (world s slots pool books) b (p .column) (p .at) (p .from) (p .count)) q slots′ pool books′
 
 -- the list of a column and the views of a part behind it, their index raised by k
-pub record Raises (s : BatchCoalescer) (slots books : List ℕ) (b : Batch) (k : ℕ) (p : Rows) (slots′ books′ : List ℕ) : Type 0 where
+pub record RaisesPart (s : BatchCoalescer) (slots books : List ℕ) (b : Batch) (k : ℕ) (p : Rows) (slots′ books′ : List ℕ) : Type 0 where
   pub is : (pool : List ℕ) → viewsRaised (listAttached (world s slots pool books) b (p .column)) b (p .column) k (p .at) (p .from) (p .count) ≡ world s slots′ pool books′

@@ -25,9 +25,9 @@ use Rattle.state.specs.LayoutLaws.{bits-fit}
 use Rattle.columns.specs.declared.Step.{Step}
 use Rattle.rules.specs.Steps.{ok}
 use Rattle.columns.specs.Step.{Steps, steps-done}
-use Rattle.going.specs.CallerLaws.{cells-room, bitmap-room, values-room}
-use Rattle.going.specs.StepGoes.{bits-goes}
-use Rattle.going.specs.Along.{Along}
+use Rattle.push_safety.specs.CallerLaws.{cells-room, bitmap-room, values-room}
+use Rattle.push_safety.specs.StepGoes.{bits-goes}
+use Rattle.push_safety.specs.Along.{Along}
 use Rattle.in_progress.specs.Part.{Part, ViewPart, AnyPart, Decided, AttachesPart, copiedBy}
 use Rattle.in_progress.specs.AskLaws.{part-place}
 use Rattle.in_progress.specs.AlongLaws.{part-on, any-part}

@@ -29,10 +29,10 @@ use Rattle.state.specs.declared.OpenBlock.{OpenBlock}
 use Rattle.state.specs.World.{World, world, columnOf}
 use Rattle.state.specs.Layout.{widthOf, cellPlace, listLength}
 use Rattle.state.specs.LayoutLaws.{views-width}
-use Rattle.going.specs.CallerLaws.{run-bounds, pool-small, cells-room, values-room, long-index, long-source}
-use Rattle.going.specs.BlockGoes.{open-entry, open-inside}
+use Rattle.push_safety.specs.CallerLaws.{run-bounds, pool-small, cells-room, values-room, long-index, long-source}
+use Rattle.push_safety.specs.BlockGoes.{open-entry, open-inside}
 use Rattle.columns.specs.SourceLaws.{list-same, sourceable}
-use Rattle.in_progress.specs.Part.{Fits, longOf, compacting}
+use Rattle.in_progress.specs.Part.{RoomInOpen, longOf, compacting}
 
 -- ---- the world that is made, of the views, of where their bytes lie, and of numbers
 
@@ -62,7 +62,7 @@ open-number-at s slots pool books c o = ap blockNumber o
 
 -- ---- what copy_strings asks
 
-module _ {w : World} {b : Batch} {r : ColumnRecord} {p : Rows} (x : Fits w b r p) where
+module _ {w : World} {b : Batch} {r : ColumnRecord} {p : Rows} (x : RoomInOpen w b r p) where
   abbrev c : ℕ
   c = p .column
 
@@ -151,7 +151,7 @@ module _ {w : World} {b : Batch} {r : ColumnRecord} {p : Rows} (x : Fits w b r p
 
 -- ---- the same as the code has it
 
-module _ (s : BatchCoalescer) (slots pool books records body : List ℕ) (rows : ℕ) (r : ColumnRecord) (p : Rows) (k : BufferNumber) (x : Fits (world s slots pool books) (batch rows records body) r p) (o : columnOf s (p .column) .block ≡ OpenBlock.Number k) where
+module _ (s : BatchCoalescer) (slots pool books records body : List ℕ) (rows : ℕ) (r : ColumnRecord) (p : Rows) (k : BufferNumber) (x : RoomInOpen (world s slots pool books) (batch rows records body) r p) (o : columnOf s (p .column) .block ≡ OpenBlock.Number k) where
   abbrev w : World
   w = world s slots pool books
 
@@ -191,7 +191,7 @@ module _ (s : BatchCoalescer) (slots pool books records body : List ℕ) (rows :
         ∙ rw (q, u, v, f))
 
 -- copy_into_open: its block is not closed
-pub block-open : {s : BatchCoalescer} {slots pool books : List ℕ} {b : Batch} {r : ColumnRecord} {p : Rows} {block : Column} → Fits (world s slots pool books) b r p → block ≡ columnOf s (p .column) → block .block ≡ OpenBlock.Closed → ⊥
+pub block-open : {s : BatchCoalescer} {slots pool books : List ℕ} {b : Batch} {r : ColumnRecord} {p : Rows} {block : Column} → RoomInOpen (world s slots pool books) b r p → block ≡ columnOf s (p .column) → block .block ≡ OpenBlock.Closed → ⊥
 block-open x e q = true≢false (sym (x .is-open) ∙ ap hasBlock (sym (ap (λ (z : Column). z .block) e) ∙ q))
 
 pub block-at : (s : BatchCoalescer) (c : ℕ) {block : Column} {k : BufferNumber} → block ≡ columnOf s c → block .block ≡ OpenBlock.Number k → columnOf s c .block ≡ OpenBlock.Number k

@@ -12,7 +12,7 @@ ghost use Rattle.rules.specs.Batch.{batch, recordOf};
 ghost use Rattle.rules.specs.Steps.{ok};
 ghost use Rattle.rules.specs.Views.{closed, partCompacted};
 ghost use Rattle.columns.specs.Step.{Steps};
-ghost use Rattle.in_progress.specs.Part.{Part, ViewPart, AnyPart, Fits, Walks, Listable, Decided, firstRows, rowsBehind, longOf, compacting, openedFor, walkedOn, copiedBy, Attaches, AttachesPart, Raises};
+ghost use Rattle.in_progress.specs.Part.{Part, ViewPart, AnyPart, RoomInOpen, Walks, Listable, Decided, firstRows, rowsBehind, longOf, compacting, openedFor, walkedOn, copiedBy, Attaches, AttachesPart, RaisesPart};
 use byte_view::Copying;
 use byte_view::Source;
 use columns::Step;
@@ -37,7 +37,7 @@ fn copy_strings(
     p: Rows,
     k: BufferNumber,
 )
-    requires { ⌜ (Fits (world s (now slots) (now pool) (now books)) (batch rows (now records) (now body)) r p) × (columnOf s (p .column) .block ≡ OpenBlock.Number k) ⌝ }
+    requires { ⌜ (RoomInOpen (world s (now slots) (now pool) (now books)) (batch rows (now records) (now body)) r p) × (columnOf s (p .column) .block ≡ OpenBlock.Number k) ⌝ }
     ensures { λ _. ⌜ compacting (world s (now (slots .entry)) (now (pool .entry)) (now (books .entry))) (batch rows (now (records .entry)) (now (body .entry))) p
         ≡ ok (world s (now (slots .exit)) (now (pool .exit)) (now (books .exit))) ⌝ }
 {
@@ -75,7 +75,7 @@ fn copy_into_open(
     r: ColumnRecord,
     p: Rows,
 )
-    requires { ⌜ Fits (world s (now slots) (now pool) (now books)) (batch rows (now records) (now body)) r p ⌝ }
+    requires { ⌜ RoomInOpen (world s (now slots) (now pool) (now books)) (batch rows (now records) (now body)) r p ⌝ }
     ensures { λ _. ⌜ compacting (world s (now (slots .entry)) (now (pool .entry)) (now (books .entry))) (batch rows (now (records .entry)) (now (body .entry))) p
         ≡ ok (world s (now (slots .exit)) (now (pool .exit)) (now (books .exit))) ⌝ }
 {
@@ -284,7 +284,7 @@ fn attach_list(
 )
     requires { ⌜ (AnyPart s (now slots) (now books) (batch rows (now records) (now body)) r p) × (k + r .count ≤ s .lists)
         × (k ≡ listLength (world s [] [] (now books)) (s .place) (p .column)) ⌝ }
-    ensures { λ _. ⌜ Raises s (now (slots .entry)) (now (books .entry)) (batch rows (now (records .entry)) (now (body .entry))) k p (now (slots .exit)) (now (books .exit)) ⌝ }
+    ensures { λ _. ⌜ RaisesPart s (now (slots .entry)) (now (books .entry)) (batch rows (now (records .entry)) (now (body .entry))) k p (now (slots .exit)) (now (books .exit)) ⌝ }
 {
     append_list(s, slots, books, records, body, rows, r, p.column);
     let to = p.place + (p.at as usize) * 16;

@@ -14,20 +14,20 @@ use Rattle.state.specs.declared.OpenBlock.{OpenBlock}
 use Rattle.state.specs.World.{World, world, columnOf}
 use Rattle.state.specs.Layout.{isViews, slotsLength, booksLength, listLength}
 use Rattle.layout.specs.Few.{Few}
-use Rattle.going.specs.Run.{Run}
-use Rattle.going.specs.BooksGo.{go-refl}
-use Rattle.going.specs.Firm.{run-firm, within-goes}
-use Rattle.going.specs.CallerLaws.{entries-room}
+use Rattle.push_safety.specs.Run.{Run}
+use Rattle.push_safety.specs.BooksGo.{go-refl}
+use Rattle.push_safety.specs.Firm.{run-firm, within-goes}
+use Rattle.push_safety.specs.CallerLaws.{entries-room}
 use Rattle.columns.specs.Pushing.{Running}
 use Rattle.columns.specs.SourceLaws.{run-few, list-same}
-use Rattle.open_blocks.specs.Open.{Booked, Ready}
+use Rattle.open_blocks.specs.Open.{Booked, FillingViews}
 
 -- ---- state and books in order
 
 pub running-booked : {s : BatchCoalescer} {books : List ℕ} → Running s books → Booked s books
 running-booked r = record { run = r .run }
 
-pub ready-at : {s : BatchCoalescer} {slots books : List ℕ} {c : ℕ} → Booked s books → length slots ≡ slotsLength s → c < s .columns → isViews s c ≡ true → Ready s slots books c
+pub ready-at : {s : BatchCoalescer} {slots books : List ℕ} {c : ℕ} → Booked s books → length slots ≡ slotsLength s → c < s .columns → isViews s c ≡ true → FillingViews s slots books c
 ready-at b l h y = record { booked = b; slots-are = l; column = h; views = y }
 
 -- ---- any slots and pool

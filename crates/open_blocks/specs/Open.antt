@@ -13,7 +13,7 @@ use Rattle.state.specs.World.{world, columnOf}
 use Rattle.state.specs.Layout.{isViews, slotsLength}
 use Rattle.columns.specs.declared.Step.{Step}
 use Rattle.columns.specs.Step.{Steps}
-use Rattle.going.specs.Run.{Run}
+use Rattle.push_safety.specs.Run.{Run}
 
 -- ---- what is asked
 
@@ -22,7 +22,7 @@ pub record Booked (s : BatchCoalescer) (books : List ℕ) : Type 0 where
   pub run : (slots pool : List ℕ) → length slots ≡ slotsLength s → length pool ≡ s .pool .0 → Run (world s slots pool books)
 
 -- a column of views of the slot being filled
-pub record Ready (s : BatchCoalescer) (slots books : List ℕ) (c : ℕ) : Type 0 where
+pub record FillingViews (s : BatchCoalescer) (slots books : List ℕ) (c : ℕ) : Type 0 where
   pub booked : Booked s books
   pub slots-are : length slots ≡ slotsLength s
   pub column : c < s .columns
@@ -31,7 +31,7 @@ pub record Ready (s : BatchCoalescer) (slots books : List ℕ) (c : ℕ) : Type 
 -- ---- what is left
 
 -- the open block of column c is closed
-pub record Closes (s : BatchCoalescer) (slots books : List ℕ) (c : ℕ) (t : BatchCoalescer) (slots′ books′ : List ℕ) : Type 0 where
+pub record ClosesBlock (s : BatchCoalescer) (slots books : List ℕ) (c : ℕ) (t : BatchCoalescer) (slots′ books′ : List ℕ) : Type 0 where
   pub is : (pool : List ℕ) → closed (world s slots pool books) c ≡ world t slots′ pool books′
 
 -- a block is opened where its list has a place for it, or none is
@@ -39,5 +39,5 @@ pub record OpensNext (s : BatchCoalescer) (books : List ℕ) (c : ℕ) (min : By
   pub steps : (slots pool : List ℕ) → Steps (opening (world s slots pool books) c (min .0) (opened books (s .numbers) (s .pool .0) (asked (columnOf s c .source) min .size .0))) q slots pool books′
 
 -- a block is opened, or none is
-pub record Opens (s : BatchCoalescer) (books : List ℕ) (c min : ℕ) (q : Step) (books′ : List ℕ) : Type 0 where
+pub record OpensBlock (s : BatchCoalescer) (books : List ℕ) (c min : ℕ) (q : Step) (books′ : List ℕ) : Type 0 where
   pub steps : (slots pool : List ℕ) → length pool ≡ s .pool .0 → Steps (blockOpened (world s slots pool books) c min) q slots pool books′

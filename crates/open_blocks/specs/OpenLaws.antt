@@ -31,7 +31,7 @@ use Rattle.rules.specs.PartLaws.{chosen-among}
 use Rattle.columns.specs.declared.Step.{Step}
 use Rattle.columns.specs.Step.{steps-done, steps-refused}
 use Rattle.columns.specs.SourceLaws.{list-same}
-use Rattle.open_blocks.specs.Open.{Closes, OpensNext, Opens}
+use Rattle.open_blocks.specs.Open.{ClosesBlock, OpensNext, OpensBlock}
 
 -- put_length
 pub length-put : (books : List ℕ) (i n : ℕ) {t : List ℕ} → t ≡ withWord32 books (12 + 20 * i) n → t ≡ withLength books i n
@@ -61,7 +61,7 @@ module _ (s : BatchCoalescer) (slots books : List ℕ) (c : ℕ) {x : Column} (e
   unfolding closed
   nothing q pool = rw (block-is q)
 
-  pub shut-none : x .block ≡ OpenBlock.Closed → Closes s slots books c s slots books
+  pub shut-none : x .block ≡ OpenBlock.Closed → ClosesBlock s slots books c s slots books
   shut-none q = record { is = nothing q }
 
   -- it joins its list
@@ -77,7 +77,7 @@ module _ (s : BatchCoalescer) (slots books : List ℕ) (c : ℕ) {x : Column} (e
     unfolding closed listing counting
     joined pool = rw (block-is q)
 
-    pub shut-one : Closes s slots books c t slots′ books′
+    pub shut-one : ClosesBlock s slots books c t slots′ books′
     shut-one =
         record {
           is = λ pool. joined pool
@@ -128,9 +128,9 @@ module _ (s : BatchCoalescer) (books : List ℕ) (c : ℕ) (min : ByteSum) {n : 
   some h slots pool p = rw (list-is slots pool, le-leb (n + 1) (s .lists) (omega arith), p)
 
   -- 10
-  pub open-full : s .lists ≤ n → Opens s books c (min .0) (record { state = s; number = 10 }) books
+  pub open-full : s .lists ≤ n → OpensBlock s books c (min .0) (record { state = s; number = 10 }) books
   open-full h = record { steps = λ slots pool p. steps-refused (λ a. omega arith) (full h slots pool) }
 
   -- what was chosen
-  pub open-chosen : {q : Step} {books′ : List ℕ} → n < s .lists → OpensNext s books c min q books′ → Opens s books c (min .0) q books′
+  pub open-chosen : {q : Step} {books′ : List ℕ} → n < s .lists → OpensNext s books c min q books′ → OpensBlock s books c (min .0) q books′
   open-chosen h a = record { steps = λ slots pool p. rw (some h slots pool p) (a .steps slots pool) }

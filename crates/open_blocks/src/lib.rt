@@ -11,7 +11,7 @@ ghost use Rattle.sound.specs.Change.{withLength};
 ghost use Rattle.state.specs.World.{world};
 ghost use Rattle.state.specs.Layout.{isViews, listPlace, listLength, slotsLength, booksLength, tally};
 ghost use Rattle.layout.specs.Few.{Few};
-ghost use Rattle.open_blocks.specs.Open.{Booked, Ready, Closes, OpensNext, Opens};
+ghost use Rattle.open_blocks.specs.Open.{Booked, FillingViews, ClosesBlock, OpensNext, OpensBlock};
 use columns::Step;
 use counts::BufferNumber;
 use counts::ByteSum;
@@ -39,8 +39,8 @@ pub fn finish_current(
     books: &mut [u8],
     c: u32,
 ) -> BatchCoalescer
-    requires { ⌜ Ready s (now slots) (now books) c ⌝ }
-    ensures { λ r. ⌜ Closes s (now (slots .entry)) (now (books .entry)) c r (now (slots .exit)) (now (books .exit)) ⌝ }
+    requires { ⌜ FillingViews s (now slots) (now books) c ⌝ }
+    ensures { λ r. ⌜ ClosesBlock s (now (slots .entry)) (now (books .entry)) c r (now (slots .exit)) (now (books .exit)) ⌝ }
 {
     let column = layout::column_of(s, c);
     let block = column.block;
@@ -79,7 +79,7 @@ fn open_next(s: BatchCoalescer, books: &mut [u8], c: u32, min: ByteSum) -> Step
 // next_buffer: a block for at least min bytes. 10, then 11 and 12.
 pub fn next_buffer(s: BatchCoalescer, books: &mut [u8], c: u32, min: ByteSum) -> Step
     requires { ⌜ (Booked s (now books)) × (c < s .columns) × (isViews s c ≡ true) ⌝ }
-    ensures { λ r. ⌜ Opens s (now (books .entry)) c (min .0) r (now (books .exit)) ⌝ }
+    ensures { λ r. ⌜ OpensBlock s (now (books .entry)) c (min .0) r (now (books .exit)) ⌝ }
 {
     let n = ranges::list_length(s, books, s.place, c);
     if n < s.lists {

@@ -19,18 +19,18 @@ refusalOf (Registered.Number k) = 0
 refusalOf (Registered.Refused number) = number
 
 -- an answer, with the books and the pool that go with it
-pub record Outcome : Type 0 where
+pub record RegisterOutcome : Type 0 where
   pub answer : Registered
   pub books : List ℕ
   pub pool : List ℕ
 
 -- a refusal changes nothing
-abbrev pub refused : List ℕ → List ℕ → ℕ → Outcome
+abbrev pub refused : List ℕ → List ℕ → ℕ → RegisterOutcome
 refused s p number = record { answer = Registered.Refused number; books = s; pool = p }
 
 -- the room taken under the caller's hold, and the bytes there. 01: "Pool bytes change only where bytes are registered or
 -- copied"
-abbrev pub settledAt : List ℕ → List ℕ → List ℕ → ℕ → Chosen → Outcome
+abbrev pub settledAt : List ℕ → List ℕ → List ℕ → ℕ → Chosen → RegisterOutcome
 settledAt s p bytes capacity (Chosen.Refused number) = refused s p number
 settledAt s p bytes capacity (Chosen.At r) =
     record {
@@ -41,12 +41,12 @@ settledAt s p bytes capacity (Chosen.At r) =
 
 -- 01: "registers bytes with a capacity not below their length, gets the lowest free number and the caller's hold";
 -- "Registering: 13, 11, 12."
-unfoldable pub registered : List ℕ → List ℕ → ℕ → List ℕ → ℕ → Outcome
+unfoldable pub registered : List ℕ → List ℕ → ℕ → List ℕ → ℕ → RegisterOutcome
 registered s p n bytes capacity =
     cond (ltb capacity (length bytes)) (refused s p 13) (settledAt s p bytes capacity (chosen s n (length p) capacity))
 
 -- the contract: answer, books and pool are the outcome's
-pub record Registers (o : Outcome) (s′ p′ : List ℕ) (r : Registered) : Type 0 where
+pub record Registers (o : RegisterOutcome) (s′ p′ : List ℕ) (r : Registered) : Type 0 where
   pub answer-is : r ≡ o .answer
   pub books-are : s′ ≡ o .books
   pub pool-is : p′ ≡ o .pool

@@ -15,7 +15,7 @@ use Rattle.finishing.specs.Finish.{answered}
 use Rattle.coalesce.specs.Push.{Pushes}
 use Rattle.completed.specs.declared.Dropped.{Dropped}
 use Rattle.completed.specs.Drop.{Drops}
-use Rattle.reads.specs.Reads.{Registers, LetsGo}
+use Rattle.reads.specs.Reads.{RegistersCall, LetsGoCall}
 use Rattle.history.specs.Call.{OfBytes, Call, push, finish, drop, register, letGo, limit, read, Did, ifDone, front}
 
 -- a call of the code: the memories that are not lent to be changed are those before it, and the numbers are those that the code answered
@@ -27,9 +27,9 @@ pub data Made (w : World) : Call → Did → Type 0 where
   -- next_completed_batch
   by-drop : {r : Dropped} {books : List ℕ} → Drops (dropCall w) books r → Made w drop (record { world = world (r .state) (w .slots) (w .pool) books; accepted = []; taken = front w (r .number) (eqb (w .state .queued) 0) })
   -- register_buffer
-  by-register : {bytes : List ℕ} {capacity : ℕ} {r : Registered} {pool books : List ℕ} → Registers (registerCall w bytes capacity) pool books r → Made w (register bytes capacity) (record { world = world (w .state) (w .slots) pool books; accepted = []; taken = [] })
+  by-register : {bytes : List ℕ} {capacity : ℕ} {r : Registered} {pool books : List ℕ} → RegistersCall (registerCall w bytes capacity) pool books r → Made w (register bytes capacity) (record { world = world (w .state) (w .slots) pool books; accepted = []; taken = [] })
   -- let_go
-  by-let-go : {k r : ℕ} {books : List ℕ} → LetsGo (letGoCall w k) books r → Made w (letGo k) (record { world = world (w .state) (w .slots) (w .pool) books; accepted = []; taken = [] })
+  by-let-go : {k r : ℕ} {books : List ℕ} → LetsGoCall (letGoCall w k) books r → Made w (letGo k) (record { world = world (w .state) (w .slots) (w .pool) books; accepted = []; taken = [] })
   -- set_biggest_coalesce_batch_size
   by-limit : {l : Limit} {s : BatchCoalescer} → s ≡ withLimit (w .state) l → Made w (limit l) (record { world = world s (w .slots) (w .pool) (w .books); accepted = []; taken = [] })
   -- read_row, read_buffer, buffer_refusal, and the reads of the state: nothing is lent to be changed

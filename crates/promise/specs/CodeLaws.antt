@@ -14,9 +14,9 @@ use Rattle.rules.specs.Calls.{Answered, Wanted, setUpCall, dropCall, registerCa
 use Rattle.rules.specs.CallLaws.{set-up-zero, set-up-done}
 use Rattle.set_up.specs.SetUp.{SetsUp}
 use Rattle.capi.specs.ApiLaws.{drop-same, register-same, let-go-same}
-use Rattle.holding.specs.Holding.{Between}
-use Rattle.holding.specs.Tested.{between-tested}
-use Rattle.holding.specs.SetUpAfter.{set-up-begins}
+use Rattle.invariant.specs.Holding.{Between}
+use Rattle.invariant.specs.Calls.Tested.{between-tested}
+use Rattle.invariant.specs.Calls.SetUpAfter.{set-up-begins}
 use Rattle.history.specs.Call.{Call, push, finish, drop, register, letGo, limit, read, Did, ifDone, front, step, run}
 use Rattle.history.specs.CallLaws.{call-law}
 use Rattle.history.specs.History.{did, all, in-order, below-target}

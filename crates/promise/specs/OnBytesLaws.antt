@@ -22,9 +22,9 @@ use Rattle.codes.specs.RoundLaws.{decoded-code, code-words}
 use Rattle.capi.specs.Api.{Memory, memory, Said, said, Told, told, Form, number, both, Given, given, pushing, finishing, dropping, registering, lettingGo, worldIn, coded, called, created, limitSet}
 use Rattle.capi.specs.QuietLaws.{Quiet, pushing-quiet, finishing-quiet, dropping-quiet, registering-quiet, letting-go-quiet}
 use Rattle.capi.specs.HandsOn.{HandsOn, hands-orderly}
-use Rattle.holding.specs.Holding.{Between}
-use Rattle.holding.specs.AloneLaws.{new-sixteen}
-use Rattle.holding.specs.SetUpAfter.{set-up-begins}
+use Rattle.invariant.specs.Holding.{Between}
+use Rattle.invariant.specs.AloneLaws.{new-sixteen}
+use Rattle.invariant.specs.Calls.SetUpAfter.{set-up-begins}
 use Rattle.history.specs.Call.{Call, push, finish, drop, register, letGo, limit, read, step, run}
 use Rattle.history.specs.CallLaws.{call-law}
 use Rattle.history.specs.History.{did, in-order}

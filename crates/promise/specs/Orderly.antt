@@ -7,18 +7,18 @@ use Rattle.state.specs.World.{World}
 use Rattle.columns.specs.declared.Step.{Step}
 use Rattle.rules.specs.Batch.{Batch}
 use Rattle.rules.specs.Calls.{Wanted, setUpCall, pushCall}
-use Rattle.alike.specs.Like.{Opens}
+use Rattle.trial_truth.specs.Like.{ColumnOpens}
 use Rattle.finishing.specs.Finish.{answered}
 use Rattle.coalesce.specs.Push.{Orderly, Pushes}
 use Rattle.coalesce.specs.ExactLaws.{sound-orderly}
 use Rattle.capi.specs.Api.{Memory, said, number, pushing, worldIn, called}
 use Rattle.capi.specs.HandsOn.{HandsOn, hands-orderly}
-use Rattle.holding.specs.Holding.{HasOpen, Between}
-use Rattle.holding.specs.AloneLaws.{open-below, open-counted}
+use Rattle.invariant.specs.Holding.{HasOpen, Between}
+use Rattle.invariant.specs.AloneLaws.{open-below, open-counted}
 use Rattle.history.specs.Call.{Call}
 use Rattle.history.specs.History.{did, all}
 
-has-open : {s : BatchCoalescer} {c k : ℕ} → Opens s c k → HasOpen s c k
+has-open : {s : BatchCoalescer} {c k : ℕ} → ColumnOpens s c k → HasOpen s c k
 has-open o = record { column = o .column; views = o .views; block = o .block }
 
 pub between-orderly : {w : World} → Between w → Orderly w

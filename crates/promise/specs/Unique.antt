@@ -9,14 +9,14 @@ use Rattle.columns.specs.declared.Step.{Step}
 use Rattle.rules.specs.Batch.{Batch}
 use Rattle.rules.specs.Calls.{Answered, RegisterAnswer}
 use Rattle.rules.specs.Calls as calls
-use Rattle.alike.specs.Like.{Apart}
+use Rattle.trial_truth.specs.Like.{OwnBlocks}
 use Rattle.finishing.specs.Finish.{answered}
 use Rattle.coalesce.specs.declared.Verdict.{Verdict}
 use Rattle.coalesce.specs.Push.{verdictOf, Orderly, Pushes}
 use Rattle.completed.specs.declared.Dropped.{Dropped}
 use Rattle.completed.specs.Drop.{Drops}
 use Rattle.set_up.specs.SetUp.{SetsUp}
-use Rattle.reads.specs.Reads.{Registers, LetsGo}
+use Rattle.reads.specs.Reads.{RegistersCall, LetsGoCall}
 use Rattle.codes.specs.Code.{decoded}
 use Rattle.capi.specs.Api.{Memory, Said, said, Told, told, worldIn}
 use Rattle.capi.specs.HandsOn.{HandsOn, hands-orderly, hands-tested}
@@ -52,11 +52,11 @@ same-drop p o =
     (same-outcome (p .state-is) (o .state-is), same-outcome (p .number-is) (o .number-is), same-outcome (p .rows-are) (o .rows-are), same-outcome (p .books-are) (o .books-are))
 
 -- register_buffer
-pub same-register : {a : RegisterAnswer} {pool pool′ books books′ : List ℕ} {r q : Registered} → Registers a pool books r → Registers a pool′ books′ q → (r ≡ q) × (pool ≡ pool′) × (books ≡ books′)
+pub same-register : {a : RegisterAnswer} {pool pool′ books books′ : List ℕ} {r q : Registered} → RegistersCall a pool books r → RegistersCall a pool′ books′ q → (r ≡ q) × (pool ≡ pool′) × (books ≡ books′)
 same-register p o = (same-outcome (p .answer-is) (o .answer-is), same-outcome (p .pool-is) (o .pool-is), same-outcome (p .books-are) (o .books-are))
 
 -- let_go
-pub same-let-go : {a : Answered} {books books′ : List ℕ} {r q : ℕ} → LetsGo a books r → LetsGo a books′ q → (r ≡ q) × (books ≡ books′)
+pub same-let-go : {a : Answered} {books books′ : List ℕ} {r q : ℕ} → LetsGoCall a books r → LetsGoCall a books′ q → (r ≡ q) × (books ≡ books′)
 same-let-go p o = (same-outcome (p .answer-is) (o .answer-is), same-outcome (p .books-are) (o .books-are))
 
 -- ---- pushing
@@ -66,7 +66,7 @@ pub same-push : {w : World} {b : Batch} {r q : Step} {slots slots′ pool pool�
 same-push h p o = same-outcome (p .exact h) (o .exact h)
 
 -- its number, where only the open blocks are in order
-pub same-push-number : {w : World} {b : Batch} {r q : Step} {slots slots′ pool pool′ books books′ : List ℕ} → Apart (w .state) (w .books) → Pushes w b r slots pool books → Pushes w b q slots′ pool′ books′ → r .number ≡ q .number
+pub same-push-number : {w : World} {b : Batch} {r q : Step} {slots slots′ pool pool′ books books′ : List ℕ} → OwnBlocks (w .state) (w .books) → Pushes w b r slots pool books → Pushes w b q slots′ pool′ books′ → r .number ≡ q .number
 same-push-number h p o = same-outcome (p .number h) (o .number h)
 
 -- pw_push_batch, on bytes that hold a world in order or code no state

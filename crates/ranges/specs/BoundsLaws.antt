@@ -150,13 +150,13 @@ module _ (s : BatchCoalescer) (slots pool books : ℕ) {b : Bool} (p : b ≡ inB
     fits-last h k r = rw (← p, x, ← q, eq-eqb slots m h, eq-eqb pool (s .pool .0) k, ← r)
 
 -- what the test of 1 says
-pub record Fits (s : BatchCoalescer) (slots pool books : ℕ) : Type 0 where
+pub record FitsSetUp (s : BatchCoalescer) (slots pool books : ℕ) : Type 0 where
   pub bounded : Bounded s
   pub slots-are : slots ≡ slotsLength s
   pub pool-is : pool ≡ s .pool .0
   pub books-are : books ≡ booksLength s
 
-pub fits-says : (s : BatchCoalescer) (slots pool books : ℕ) → fitsLengths s slots pool books ≡ true → Fits s slots pool books
+pub fits-says : (s : BatchCoalescer) (slots pool books : ℕ) → fitsLengths s slots pool books ≡ true → FitsSetUp s slots pool books
 unfolding fitsLengths
 fits-says s slots pool books e =
     let a = and-eq-true-iff _ _ .0 e in

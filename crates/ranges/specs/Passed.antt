@@ -13,14 +13,14 @@ use Rattle.rules.specs.Ranges.{tested}
 use Rattle.ranges.specs.SaysLaws.{says-few, says-slots, says-pool, says-books, says-place, says-queued, says-slot, says-listed-room}
 
 -- state, slots and books passed the tests, beside some pool
-pub record Passed (s : BatchCoalescer) (slots books : List ℕ) : Type 0 where
+pub record PassedTests (s : BatchCoalescer) (slots books : List ℕ) : Type 0 where
   pub pool : List ℕ
   pub zero : tested (world s slots pool books) ≡ 0
 
-pub passed : {s : BatchCoalescer} {slots books : List ℕ} (pool : List ℕ) {r : ℕ} → r ≡ tested (world s slots pool books) → r ≡ 0 → Passed s slots books
+pub passed : {s : BatchCoalescer} {slots books : List ℕ} (pool : List ℕ) {r : ℕ} → r ≡ tested (world s slots pool books) → r ≡ 0 → PassedTests s slots books
 passed pool e z = record { pool = pool; zero = sym e ∙ z }
 
-module _ (s : BatchCoalescer) (slots books : List ℕ) (p : Passed s slots books) where
+module _ (s : BatchCoalescer) (slots books : List ℕ) (p : PassedTests s slots books) where
   pub passed-few : Few s
   passed-few = says-few s slots (p .pool) books (sym (p .zero)) refl
 

@@ -24,7 +24,7 @@ use Rattle.layout.specs.PlaceLaws.{entry-room}
 use Rattle.rules.specs.Ranges.{between, blockInRange, columnInRange, listInRange, slotInRange, fitsSetUp, stateInRange, tested}
 use Rattle.rules.specs.TestLaws.{TestedCase, notSetUp, outOfRange, passed, tested-case}
 use Rattle.ranges.specs.Tested.{fitsLengths, Sized}
-use Rattle.ranges.specs.BoundsLaws.{Fits, fits-says, between-says}
+use Rattle.ranges.specs.BoundsLaws.{FitsSetUp, fits-says, between-says}
 use Rattle.ranges.specs.RangeLaws.{entries-room}
 
 -- the parts of 14
@@ -72,11 +72,11 @@ column-says s slots pool books c t v =
     let a = and-eq-true-iff (between 4096 (columnOf s c .source .current .0) 1048576) (blockInRange (usedOf books) (listLength (world s [] [] books) (s .place) c) (s .lists) (columnOf s c .block)) .0 (rw v at t) in
     record { size = between-says 4096 (columnOf s c .source .current .0) 1048576 (a .0); block = a .1 }
 
-record Listed (s : BatchCoalescer) (slots books : List ℕ) (slot c : ℕ) : Type 0 where
+record ListSays (s : BatchCoalescer) (slots books : List ℕ) (slot c : ℕ) : Type 0 where
   count : listLength (world s [] [] books) slot c ≤ cond (isViews s c) (s .lists) 0
   numbers : (i : ℕ) → i < listLength (world s [] [] books) slot c → word32 slots (listPlace s slot c + 4 * i) < s .numbers
 
-list-says : (s : BatchCoalescer) (slots pool books : List ℕ) (slot c : ℕ) → listInRange (world s slots pool books) slot c ≡ true → Listed s slots books slot c
+list-says : (s : BatchCoalescer) (slots pool books : List ℕ) (slot c : ℕ) → listInRange (world s slots pool books) slot c ≡ true → ListSays s slots books slot c
 unfolding listInRange listLength
 list-says s slots pool books slot c t =
     let n = listLength (world s [] [] books) slot c in
@@ -86,7 +86,7 @@ list-says s slots pool books slot c t =
       numbers = λ i l. ltb-true _ _ (every-says (λ i. ltb (word32 slots (listPlace s slot c + 4 * i)) (s .numbers)) n (a .1) i l);
     }
 
-slot-says : (s : BatchCoalescer) (slots pool books : List ℕ) (slot : ℕ) → slotInRange (world s slots pool books) slot ≡ true → (rowsIn (world s [] [] books) slot ≤ s .rows .0) × ((c : ℕ) → c < s .columns → Listed s slots books slot c)
+slot-says : (s : BatchCoalescer) (slots pool books : List ℕ) (slot : ℕ) → slotInRange (world s slots pool books) slot ≡ true → (rowsIn (world s [] [] books) slot ≤ s .rows .0) × ((c : ℕ) → c < s .columns → ListSays s slots books slot c)
 unfolding slotInRange rowsIn
 slot-says s slots pool books slot t =
     let w = world s slots pool books in
@@ -94,7 +94,7 @@ slot-says s slots pool books slot t =
     (leb-true _ _ (a .0), λ c l. list-says s slots pool books slot c (every-says (listInRange w slot) (s .columns) (a .1) c l))
 
 module _ (s : BatchCoalescer) (slots pool books : List ℕ) {r : ℕ} (e : r ≡ tested (world s slots pool books)) (z : r ≡ 0) where
-  fits : Fits s (length slots) (length pool) (length books)
+  fits : FitsSetUp s (length slots) (length pool) (length books)
   unfolding fitsSetUp fitsLengths
   fits = fits-says s (length slots) (length pool) (length books) (both-pass (world s slots pool books) (sym e ∙ z) .0)
 
@@ -188,7 +188,7 @@ module _ (s : BatchCoalescer) (slots pool books : List ℕ) {r : ℕ} (e : r ≡
   says-entry k p h q = rw q (says-buffer k (omega arith))
 
   -- each slot: its rows, and the count of a list
-  slot : (i : ℕ) → i ≤ s .queue → (rowsIn (world s [] [] books) i ≤ s .rows .0) × ((c : ℕ) → c < s .columns → Listed s slots books i c)
+  slot : (i : ℕ) → i ≤ s .queue → (rowsIn (world s [] [] books) i ≤ s .rows .0) × ((c : ℕ) → c < s .columns → ListSays s slots books i c)
   slot i h = slot-says s slots pool books i (every-says (slotInRange (world s slots pool books)) (s .queue + 1) (ranged .slots) i (omega arith))
 
   pub says-slot : (i : ℕ) {n : ℕ} → n ≡ rowsIn (world s [] [] books) i → i ≤ s .queue → n ≤ s .rows .0

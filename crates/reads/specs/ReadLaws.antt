@@ -25,8 +25,8 @@ use Rattle.layout.specs.PlaceLaws.{bitmap-below, cell-below}
 use Rattle.state.specs.Rows.{listedAt}
 use Rattle.rules.specs.Ranges.{tested}
 use Rattle.rules.specs.Calls.{viewAnswer, valueAnswer, isRow, readRow, bufferNumberCall, bufferCall, registerCall, letGoCall}
-use Rattle.ranges.specs.Passed.{Passed, passed-slots}
-use Rattle.reads.specs.Reads.{rowAnswer, frontRow, Registers, LetsGo}
+use Rattle.ranges.specs.Passed.{PassedTests, passed-slots}
+use Rattle.reads.specs.Reads.{rowAnswer, frontRow, RegistersCall, LetsGoCall}
 
 -- ---- buffers: n is what the tests answered
 
@@ -47,25 +47,25 @@ module _ (s : BatchCoalescer) (slots pool books : List ℕ) {n : ℕ} (e : n ≡
   unfolding bufferCall
   part-read i z p = rw (← e, z) p
 
-  pub register-refused : (bytes : List ℕ) (capacity : ℕ) → (n ≡ 0 → ⊥) → Registers (registerCall (world s slots pool books) bytes capacity) pool books (Registered.Refused n)
+  pub register-refused : (bytes : List ℕ) (capacity : ℕ) → (n ≡ 0 → ⊥) → RegistersCall (registerCall (world s slots pool books) bytes capacity) pool books (Registered.Refused n)
   unfolding registerCall
   register-refused bytes capacity h =
       rw (ne-eqb (tested (world s slots pool books)) 0 (λ z. h (e ∙ z)), registerCall)
       (record { answer-is = ap Registered.Refused e; pool-is = refl; books-are = refl })
 
-  pub register-done : (bytes : List ℕ) (capacity : ℕ) {pool′ books′ : List ℕ} {r : Registered} → n ≡ 0 → register.Registers (registered books pool (s .numbers) bytes capacity) books′ pool′ r → Registers (registerCall (world s slots pool books) bytes capacity) pool′ books′ r
+  pub register-done : (bytes : List ℕ) (capacity : ℕ) {pool′ books′ : List ℕ} {r : Registered} → n ≡ 0 → register.Registers (registered books pool (s .numbers) bytes capacity) books′ pool′ r → RegistersCall (registerCall (world s slots pool books) bytes capacity) pool′ books′ r
   unfolding registerCall
   register-done bytes capacity z o =
       rw (sym e ∙ z, registerCall)
       (record { answer-is = o .answer-is; pool-is = o .pool-is; books-are = o .books-are })
 
-  pub go-refused : (i : ℕ) → (n ≡ 0 → ⊥) → LetsGo (letGoCall (world s slots pool books) i) books n
+  pub go-refused : (i : ℕ) → (n ≡ 0 → ⊥) → LetsGoCall (letGoCall (world s slots pool books) i) books n
   unfolding letGoCall
   go-refused i h =
       rw (ne-eqb (tested (world s slots pool books)) 0 (λ z. h (e ∙ z)), letGoCall)
       (record { answer-is = e; books-are = refl })
 
-  pub go-done : (i : ℕ) {books′ : List ℕ} {r : ℕ} → n ≡ 0 → register.LetsGo (letGo books i) books′ r → LetsGo (letGoCall (world s slots pool books) i) books′ r
+  pub go-done : (i : ℕ) {books′ : List ℕ} {r : ℕ} → n ≡ 0 → register.LetsGo (letGo books i) books′ r → LetsGoCall (letGoCall (world s slots pool books) i) books′ r
   unfolding letGoCall
   go-done i z o = rw (sym e ∙ z, letGoCall) (record { answer-is = o .answer-is; books-are = o .books-are })
 
@@ -108,7 +108,7 @@ module _ (s : BatchCoalescer) (slots books : List ℕ) (c i : ℕ) where
 
 module _ (s : BatchCoalescer) (slots books : List ℕ) (slot c i : ℕ) where
   -- the bit lies in the slots
-  pub bit-room : {at : ℕ} → Passed s slots books → slot ≤ s .queue → c < s .columns → i < s .rows .0 → at ≡ bitmapPlace s slot c → 8 * at + 0 + i < 8 * length slots
+  pub bit-room : {at : ℕ} → PassedTests s slots books → slot ≤ s .queue → c < s .columns → i < s .rows .0 → at ≡ bitmapPlace s slot c → 8 * at + 0 + i < 8 * length slots
   bit-room p h l m e =
       omega (arith, bits-fit s, bitmap-below s h l (passed-slots s slots books p))
 
@@ -126,7 +126,7 @@ module _ (s : BatchCoalescer) (slots books : List ℕ) (slot c i : ℕ) where
 
   module _ {v : Bool} (p : v ≡ isViews s c) {at : ℕ} (q : at ≡ cellPlace s slot c i) where
     -- the view lies in the slots
-    pub view-room : v ≡ true → Passed s slots books → slot ≤ s .queue → c < s .columns → i < s .rows .0 → at + 16 ≤ length slots
+    pub view-room : v ≡ true → PassedTests s slots books → slot ≤ s .queue → c < s .columns → i < s .rows .0 → at + 16 ≤ length slots
     view-room x t h l m =
         omega (arith, views-width s c (sym p ∙ x), cell-below s h l (passed-slots s slots books t) m)
 

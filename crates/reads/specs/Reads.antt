@@ -22,11 +22,11 @@ unfoldable pub frontRow : World → ℕ → ℕ → RowAnswer
 frontRow w c i = cond (isRow w c i) (rowAnswer w (frontSlot w) c i) (RowAnswer.Refused 13)
 
 -- the contracts: answer, pool and books are the call's. State and slots are not lent to be changed
-pub record Registers (a : RegisterAnswer) (pool′ books′ : List ℕ) (r : Registered) : Type 0 where
+pub record RegistersCall (a : RegisterAnswer) (pool′ books′ : List ℕ) (r : Registered) : Type 0 where
   pub answer-is : r ≡ a .answer
   pub pool-is : pool′ ≡ a .world .pool
   pub books-are : books′ ≡ a .world .books
 
-pub record LetsGo (a : Answered) (books′ : List ℕ) (r : ℕ) : Type 0 where
+pub record LetsGoCall (a : Answered) (books′ : List ℕ) (r : ℕ) : Type 0 where
   pub answer-is : r ≡ a .number
   pub books-are : books′ ≡ a .world .books

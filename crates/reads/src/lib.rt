@@ -10,8 +10,8 @@ ghost use Rattle.state.specs.Layout.{isViews};
 ghost use Rattle.rules.specs.Batch.{batch};
 ghost use Rattle.rules.specs.Ranges.{tested};
 ghost use Rattle.rules.specs.Calls.{registerCall, letGoCall, bufferNumberCall, bufferCall, viewAnswer, valueAnswer, readRow};
-ghost use Rattle.ranges.specs.Passed.{Passed};
-ghost use Rattle.reads.specs.Reads.{rowAnswer, frontRow, Registers, LetsGo};
+ghost use Rattle.ranges.specs.Passed.{PassedTests};
+ghost use Rattle.reads.specs.Reads.{rowAnswer, frontRow, RegistersCall, LetsGoCall};
 use counts::BufferNumber;
 use counts::ByteCount;
 use pool::Registered;
@@ -19,7 +19,7 @@ use state::BatchCoalescer;
 use state::Place;
 use state::RowAnswer;
 
-// Registers bytes with a capacity; the caller holds the buffer. 13, 11, 12.
+// RegistersCall bytes with a capacity; the caller holds the buffer. 13, 11, 12.
 pub fn register_buffer(
     s: BatchCoalescer,
     slots: &[u8],
@@ -28,7 +28,7 @@ pub fn register_buffer(
     bytes: &[u8],
     capacity: ByteCount,
 ) -> Registered
-    ensures { λ r. ⌜ Registers (registerCall (world s (now (slots .entry)) (now (pool .entry)) (now (books .entry))) (now (bytes .entry)) (capacity .0)) (now (pool .exit)) (now (books .exit)) r ⌝ }
+    ensures { λ r. ⌜ RegistersCall (registerCall (world s (now (slots .entry)) (now (pool .entry)) (now (books .entry))) (now (bytes .entry)) (capacity .0)) (now (pool .exit)) (now (books .exit)) r ⌝ }
 {
     let number = ranges::tested(s, slots, pool, books);
     if number == 0 {
@@ -46,7 +46,7 @@ pub fn let_go(
     books: &mut [u8],
     buffer: BufferNumber,
 ) -> u32
-    ensures { λ r. ⌜ LetsGo (letGoCall (world s (now (slots .entry)) (now (pool .entry)) (now (books .entry))) (buffer .0)) (now (books .exit)) r ⌝ }
+    ensures { λ r. ⌜ LetsGoCall (letGoCall (world s (now (slots .entry)) (now (pool .entry)) (now (books .entry))) (buffer .0)) (now (books .exit)) r ⌝ }
 {
     let number = ranges::tested(s, slots, pool, books);
     if number == 0 {
@@ -100,7 +100,7 @@ fn view_answer(
     c: u32,
     at: usize,
 ) -> RowAnswer
-    requires { ⌜ (Passed s (now slots) (now books)) × (slot ≤ s .queue) × (c < s .columns) × (isViews s c ≡ true) × (at + 16 ≤ length (now slots)) ⌝ }
+    requires { ⌜ (PassedTests s (now slots) (now books)) × (slot ≤ s .queue) × (c < s .columns) × (isViews s c ≡ true) × (at + 16 ≤ length (now slots)) ⌝ }
     ensures { λ r. ⌜ r ≡ viewAnswer (world s (now (slots .entry)) [] (now (books .entry))) slot c at (viewOf (now (slots .entry)) at) ⌝ }
 {
     let v = views::view_at(slots, at);
@@ -127,7 +127,7 @@ fn value_answer(
     c: u32,
     i: u32,
 ) -> RowAnswer
-    requires { ⌜ (Passed s (now slots) (now books)) × (slot ≤ s .queue) × (c < s .columns) × (i < s .rows .0) ⌝ }
+    requires { ⌜ (PassedTests s (now slots) (now books)) × (slot ≤ s .queue) × (c < s .columns) × (i < s .rows .0) ⌝ }
     ensures { λ r. ⌜ r ≡ valueAnswer (world s (now (slots .entry)) [] (now (books .entry))) slot c i ⌝ }
 {
     let at = layout::cell_place(s, slot, c, i);
@@ -141,7 +141,7 @@ fn value_answer(
 
 // A row of a slot: null, or where its value is.
 fn row_answer(s: BatchCoalescer, slots: &[u8], books: &[u8], slot: u32, c: u32, i: u32) -> RowAnswer
-    requires { ⌜ (Passed s (now slots) (now books)) × (slot ≤ s .queue) × (c < s .columns) × (i < s .rows .0) ⌝ }
+    requires { ⌜ (PassedTests s (now slots) (now books)) × (slot ≤ s .queue) × (c < s .columns) × (i < s .rows .0) ⌝ }
     ensures { λ r. ⌜ r ≡ rowAnswer (world s (now (slots .entry)) [] (now (books .entry))) slot c i ⌝ }
 {
     let bit = bits::bit_at(slots, layout::bitmap_place(s, slot, c), 0, i as usize);
@@ -154,7 +154,7 @@ fn row_answer(s: BatchCoalescer, slots: &[u8], books: &[u8], slot: u32, c: u32, 
 
 // Row i of column c of the front batch, in a state that passed its tests. 13 where there is none.
 fn front_row(s: BatchCoalescer, slots: &[u8], books: &[u8], c: u32, i: u32) -> RowAnswer
-    requires { ⌜ Passed s (now slots) (now books) ⌝ }
+    requires { ⌜ PassedTests s (now slots) (now books) ⌝ }
     ensures { λ r. ⌜ r ≡ frontRow (world s (now (slots .entry)) [] (now (books .entry))) c i ⌝ }
 {
     if s.queued == 0 {

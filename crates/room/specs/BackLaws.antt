@@ -13,7 +13,7 @@ use Rattle.search.specs.Cases.{by-cond}
 use Rattle.words.specs.FrameLaws.{framed-refl, framed-trans}
 use Rattle.books.specs.declared.Entry.{Entry}
 use Rattle.books.specs.Entry.{usedOf, entryOf, withEntry, isFreeAt}
-use Rattle.books.specs.EntryLaws.{Fits}
+use Rattle.books.specs.EntryLaws.{EntryWords}
 use Rattle.listings.specs.Listing.{noEntry, taken, withUsed}
 use Rattle.listings.specs.ListingLaws.{used-withUsed}
 use Rattle.sound.specs.Sound.{Sound}
@@ -93,7 +93,7 @@ record Uses (t : List ℕ) (n i u : ℕ) : Type 0 where
   within : u ≤ n
 
 -- a free number taken for a marked entry
-module _ {s t : List ℕ} {n : ℕ} (i : ℕ) (e : Entry) (w : Clean s n) (h : Tried s t n) (l : Lowest (isFreeAt t) n i) (f : Fits e) (m : e .hold ≡ 2) where
+module _ {s t : List ℕ} {n : ℕ} (i : ℕ) (e : Entry) (w : Clean s n) (h : Tried s t n) (l : Lowest (isFreeAt t) n i) (f : EntryWords e) (m : e .hold ≡ 2) where
   uses : Uses t n i (usedOf (taken t i e))
   uses =
       rw (used-taken i e (tried-roomy w h) (l .below))
@@ -128,7 +128,7 @@ tried-more {s} {t} {n} pool c w h f = go (chosen t n pool c) refl
     go (Chosen.Refused number) e = h
     go (Chosen.At r) e =
         let q : Found-room t n pool c r = room-says t n pool c r e in
-        let fits : Fits (entryAt (r .start) c 0 2 0) =
+        let fits : EntryWords (entryAt (r .start) c 0 2 0) =
         record {
           start-fits = omega (arith, q .gap .fits);
           capacity-fits = omega (arith, q .gap .fits);

@@ -55,15 +55,15 @@ module _ (s : BatchCoalescer) (rows : ℕ) {p : Bool} (e : p ≡ overLimit (s .l
     route-on x z y = rw (← e, x, ne-eqb (s .buffered .0) 0 z, ← f, y)
 
 -- what the answer says of a push
-data Told (w : World) (b : Batch) : Type 0 where
-  whole : routeOf (w .state) (b .rows) ≡ Route.Whole → stepped w b ≡ queuedWhole w b → Told w b
-  first : routeOf (w .state) (b .rows) ≡ Route.FinishFirst → stepped w b ≡ bind (finished w) (λ v. queuedWhole v b) → Told w b
-  on : routeOf (w .state) (b .rows) ≡ Route.Coalesce → stepped w b ≡ coalesced (b .rows) w w b 0 → Told w b
+data RouteTold (w : World) (b : Batch) : Type 0 where
+  whole : routeOf (w .state) (b .rows) ≡ Route.Whole → stepped w b ≡ queuedWhole w b → RouteTold w b
+  first : routeOf (w .state) (b .rows) ≡ Route.FinishFirst → stepped w b ≡ bind (finished w) (λ v. queuedWhole v b) → RouteTold w b
+  on : routeOf (w .state) (b .rows) ≡ Route.Coalesce → stepped w b ≡ coalesced (b .rows) w w b 0 → RouteTold w b
 
-told : (w : World) (b : Batch) → Told w b
+told : (w : World) (b : Batch) → RouteTold w b
 told w b = go (overLimit (w .state .limit) (b .rows)) refl (eqb (w .state .buffered .0) 0) refl (overLimit (w .state .limit) (w .state .buffered .0)) refl
   where
-    go : (p : Bool) → overLimit (w .state .limit) (b .rows) ≡ p → (z : Bool) → eqb (w .state .buffered .0) 0 ≡ z → (q : Bool) → overLimit (w .state .limit) (w .state .buffered .0) ≡ q → Told w b
+    go : (p : Bool) → overLimit (w .state .limit) (b .rows) ≡ p → (z : Bool) → eqb (w .state .buffered .0) 0 ≡ z → (q : Bool) → overLimit (w .state .limit) (w .state .buffered .0) ≡ q → RouteTold w b
     go false e z f q g = on (sym (route-small (w .state) (b .rows) (sym e) refl)) (stepped-small w b e)
     go true e true f q g =
         whole (sym (route-whole (w .state) (b .rows) (sym e) refl (eqb-true _ _ f))) (stepped-whole w b e (eqb-true _ _ f))
@@ -76,7 +76,7 @@ module _ (w : World) (b : Batch) {r : Route} (e : r ≡ routeOf (w .state) (b .r
   pub route-says-whole : r ≡ Route.Whole → stepped w b ≡ queuedWhole w b
   route-says-whole q = go (told w b)
     where
-      go : Told w b → stepped w b ≡ queuedWhole w b
+      go : RouteTold w b → stepped w b ≡ queuedWhole w b
       go (whole p s) = s
       go (first p s) = let z : _≡_ {A = ℕ} 0 1 = cc in absurd (omega arith)
       go (on p s) = let z : _≡_ {A = ℕ} 0 1 = cc in absurd (omega arith)
@@ -84,7 +84,7 @@ module _ (w : World) (b : Batch) {r : Route} (e : r ≡ routeOf (w .state) (b .r
   pub route-says-first : r ≡ Route.FinishFirst → stepped w b ≡ bind (finished w) (λ v. queuedWhole v b)
   route-says-first q = go (told w b)
     where
-      go : Told w b → stepped w b ≡ bind (finished w) (λ v. queuedWhole v b)
+      go : RouteTold w b → stepped w b ≡ bind (finished w) (λ v. queuedWhole v b)
       go (first p s) = s
       go (whole p s) = let z : _≡_ {A = ℕ} 0 1 = cc in absurd (omega arith)
       go (on p s) = let z : _≡_ {A = ℕ} 0 1 = cc in absurd (omega arith)
@@ -92,7 +92,7 @@ module _ (w : World) (b : Batch) {r : Route} (e : r ≡ routeOf (w .state) (b .r
   pub route-says-on : r ≡ Route.Coalesce → stepped w b ≡ coalesced (b .rows) w w b 0
   route-says-on q = go (told w b)
     where
-      go : Told w b → stepped w b ≡ coalesced (b .rows) w w b 0
+      go : RouteTold w b → stepped w b ≡ coalesced (b .rows) w w b 0
       go (on p s) = s
       go (whole p s) = let z : _≡_ {A = ℕ} 0 1 = cc in absurd (omega arith)
       go (first p s) = let z : _≡_ {A = ℕ} 0 1 = cc in absurd (omega arith)

@@ -15,10 +15,10 @@ use Rattle.byte_view.specs.declared.Source.{Source}
 use Rattle.columns.specs.Column.{sourceFor, Sourceable}
 use Rattle.columns.specs.Pushing.{Pushing}
 use Rattle.columns.specs.SourceLaws.{sourceable}
-use Rattle.going.specs.Run.{Run, Readable}
-use Rattle.going.specs.BooksGo.{go-refl}
-use Rattle.going.specs.Firm.{run-firm, reads-go}
-use Rattle.going.specs.CallerLaws.{run-bounds}
+use Rattle.push_safety.specs.Run.{Run, Readable}
+use Rattle.push_safety.specs.BooksGo.{go-refl}
+use Rattle.push_safety.specs.Firm.{run-firm, reads-go}
+use Rattle.push_safety.specs.CallerLaws.{run-bounds}
 use Rattle.routes.specs.declared.Sources.{Sources}
 use Rattle.routes.specs.Sourced.{noSource, Sourced}
 

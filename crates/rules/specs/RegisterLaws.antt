@@ -14,7 +14,7 @@ use Rattle.counts.specs.declared.BufferNumber.{BufferNumber}
 use Rattle.room.specs.declared.Chosen.{Chosen}
 use Rattle.room.specs.Room.{chosen}
 use Rattle.pool.specs.declared.Registered.{Registered}
-use Rattle.pool.specs.Register.{Outcome, settledAt, registered, refusalOf, isHeld, letGo}
+use Rattle.pool.specs.Register.{RegisterOutcome, settledAt, registered, refusalOf, isHeld, letGo}
 use Rattle.state.specs.World.{World}
 use Rattle.rules.specs.Steps.{inBooks}
 use Rattle.rules.specs.Ranges.{tested}
@@ -28,7 +28,7 @@ use Rattle.rules.specs.TestLaws.{tested-number}
 -- ---- register
 
 -- an outcome over books s and pool p: a number and the caller's hold, or a refusal, and nothing is changed
-data Outcomes (s p : List ℕ) (o : Outcome) : Type 0 where
+data Outcomes (s p : List ℕ) (o : RegisterOutcome) : Type 0 where
   done : (k : BufferNumber) → o .answer ≡ Registered.Number k → Outcomes s p o
   not : (n : ℕ) → Among (11 ∷ 12 ∷ 13 ∷ []) n → o .answer ≡ Registered.Refused n → o .books ≡ s → o .pool ≡ p → Outcomes s p o
 
@@ -49,7 +49,7 @@ module _ (w : World) (bytes : List ℕ) (capacity : ℕ) where
   register-tested h = rw (ne-eqb (tested w) 0 h, registerCall)
 
   -- the pool's own outcome
-  abbrev outcomeOf : Outcome
+  abbrev outcomeOf : RegisterOutcome
   outcomeOf = registered (w .books) (w .pool) (w .state .numbers) bytes capacity
 
   pub register-steps : tested w ≡ 0 → registerCall w bytes capacity ≡ record { answer = registered (w .books) (w .pool) (w .state .numbers) bytes capacity .answer; world = record { state = w .state; slots = w .slots; pool = registered (w .books) (w .pool) (w .state .numbers) bytes capacity .pool; books = registered (w .books) (w .pool) (w .state .numbers) bytes capacity .books } }

@@ -18,7 +18,7 @@ use Rattle.room.specs.Room.{chosen, takenFor, openedAs, opened}
 use Rattle.words.specs.RunLaws.{length-put}
 use borrow.Author.Tests.{ltb-false}
 use Rattle.pool.specs.RegisterLaws.{bytes-room}
-use Rattle.pool.specs.Register.{Outcome, Gone, settledAt, registered, isHeld, letGo}
+use Rattle.pool.specs.Register.{RegisterOutcome, Gone, settledAt, registered, isHeld, letGo}
 
 module _ (s : List ℕ) (i : ℕ) where
   pub length-withLength : (v : ℕ) → length (withLength s i v) ≡ length s
@@ -81,7 +81,7 @@ at-room s p bytes capacity (Chosen.At r) = length-taken s (r .number .0) _
 pub length-registered : (s p : List ℕ) (n : ℕ) (bytes : List ℕ) (capacity : ℕ) → length (registered s p n bytes capacity .books) ≡ length s
 unfolding registered
 length-registered s p n bytes capacity =
-    by-cond (λ (o : Outcome). length (o .books) ≡ length s) (ltb capacity (length bytes)) (λ h. refl)
+    by-cond (λ (o : RegisterOutcome). length (o .books) ≡ length s) (ltb capacity (length bytes)) (λ h. refl)
     (λ h. at-room s p bytes capacity (chosen s n (length p) capacity))
 
 -- registered bytes lie in the pool
@@ -92,5 +92,5 @@ placed-pool s p n bytes capacity (Chosen.At r) h e = length-put (r .start) bytes
 pub pool-registered : (s p : List ℕ) (n : ℕ) (bytes : List ℕ) (capacity : ℕ) → length (registered s p n bytes capacity .pool) ≡ length p
 unfolding registered
 pool-registered s p n bytes capacity =
-    by-cond (λ (o : Outcome). length (o .pool) ≡ length p) (ltb capacity (length bytes)) (λ h. refl)
+    by-cond (λ (o : RegisterOutcome). length (o .pool) ≡ length p) (ltb capacity (length bytes)) (λ h. refl)
     (λ h. placed-pool s p n bytes capacity (chosen s n (length p) capacity) (ltb-false capacity (length bytes) h) refl)

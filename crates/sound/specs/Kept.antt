@@ -11,7 +11,7 @@ use Rattle.words.specs.Word.{wordOf, word32}
 use Rattle.words.specs.WordLaws.{Bytes}
 use Rattle.books.specs.declared.Entry.{Entry}
 use Rattle.books.specs.Entry.{usedOf, place, entryOf, isFree}
-use Rattle.books.specs.EntryLaws.{Fits, entry-fits, Shares, Occupies}
+use Rattle.books.specs.EntryLaws.{EntryWords, entry-fits, Shares, Occupies}
 use Rattle.books.specs.GapLaws.{GapAt}
 use Rattle.listings.specs.Listing.{noEntry, freed, taken, freeUnused, oneMore, listedOne, unlistedOne, released}
 use Rattle.listings.specs.ListingLaws.{more-is, used-word}
@@ -70,7 +70,7 @@ module _ {s : List ℕ} {n p : ℕ} {count : ℕ → ℕ} (i : ℕ) (w : Sound s
   still k (no d) = count-other count i (entryOf s i .listings) k d
 
   -- taken: the new buffer lies in the pool, and no buffer in use occupies a byte of it
-  pub taken-sound : (e : Entry) → Fits e → isFree e ≡ false → e .hold ≤ 1 → e .length .0 ≤ e .capacity .0 → e .start + e .capacity .0 ≤ p → ((k : ℕ) → k < usedOf s → Occupies (entryOf s k) (e .start) (e .capacity .0) → ⊥) → Sound (taken s i e) n p (countWith count i (e .listings))
+  pub taken-sound : (e : Entry) → EntryWords e → isFree e ≡ false → e .hold ≤ 1 → e .length .0 ≤ e .capacity .0 → e .start + e .capacity .0 ≤ p → ((k : ℕ) → k < usedOf s → Occupies (entryOf s k) (e .start) (e .capacity .0) → ⊥) → Sound (taken s i e) n p (countWith count i (e .listings))
   taken-sound e f live o l inside clear =
       changed-sound w c
       (record {
@@ -90,7 +90,7 @@ module _ {s : List ℕ} {n p : ℕ} {count : ℕ → ℕ} (i : ℕ) (w : Sound s
       none k g x false q = clear k (live-used k (sound-top w) g q) (record { live = q; shares = shares-flip x })
 
   -- in particular, taken for a buffer at a gap
-  pub gap-sound : (e : Entry) → Fits e → isFree e ≡ false → e .hold ≤ 1 → e .length .0 ≤ e .capacity .0 → GapAt s p (e .capacity .0) (e .start) → Sound (taken s i e) n p (countWith count i (e .listings))
+  pub gap-sound : (e : Entry) → EntryWords e → isFree e ≡ false → e .hold ≤ 1 → e .length .0 ≤ e .capacity .0 → GapAt s p (e .capacity .0) (e .start) → Sound (taken s i e) n p (countWith count i (e .listings))
   gap-sound e f live o l g = taken-sound e f live o l (g .fits) (g .clear)
 
   -- freed, listed or not

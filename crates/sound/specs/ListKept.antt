@@ -31,19 +31,19 @@ listed-relisted {s} i r h =
     changed-each (listed-changed i r h) (λ k x. Relisted (entryOf s k) x) (record { is = refl }) (λ k g d. record { is = refl })
 
 -- what is live after an unlisting was live
-record Stays (e f : Entry) : Type 0 where
+record LiveBefore (e f : Entry) : Type 0 where
   was : isFree e ≡ false
   relisted : Relisted e f
 
-unlisted-stays-so : {s : List ℕ} {n : ℕ} (i : ℕ) → Roomy s n → i < n → (k : ℕ) → k < n → isFree (entryOf (unlistedOne s i) k) ≡ false → Stays (entryOf s k) (entryOf (unlistedOne s i) k)
+unlisted-stays-so : {s : List ℕ} {n : ℕ} (i : ℕ) → Roomy s n → i < n → (k : ℕ) → k < n → isFree (entryOf (unlistedOne s i) k) ≡ false → LiveBefore (entryOf s k) (entryOf (unlistedOne s i) k)
 unlisted-stays-so {s} i r h =
-    changed-each (unlisted-changed i r h) (λ k x. isFree x ≡ false → Stays (entryOf s k) x) same
+    changed-each (unlisted-changed i r h) (λ k x. isFree x ≡ false → LiveBefore (entryOf s k) x) same
     (λ k g d f. record { was = f; relisted = record { is = refl } })
   where
     less : Entry
     less = listingsAs (entryOf s i) (entryOf s i .listings - 1)
 
-    same : isFree (orFree less) ≡ false → Stays (entryOf s i) (orFree less)
+    same : isFree (orFree less) ≡ false → LiveBefore (entryOf s i) (orFree less)
     same f =
         let q : orFree less ≡ less = unused-still less f in
         record {
@@ -53,13 +53,13 @@ unlisted-stays-so {s} i r h =
 
 module _ {s : List ℕ} {n p : ℕ} {count : ℕ → ℕ} (l : List ℕ) (w : Sound s n p count) where
   -- a whole list unlisted: what is live then was live, and its entry is as it was but for the listings
-  unlisted-all-so : (c : ℕ) → ((k : ℕ) → k < c → word32 l (4 * k) < n) → (k : ℕ) → k < n → isFree (entryOf (overList unlistedOne s l c) k) ≡ false → Stays (entryOf s k) (entryOf (overList unlistedOne s l c) k)
+  unlisted-all-so : (c : ℕ) → ((k : ℕ) → k < c → word32 l (4 * k) < n) → (k : ℕ) → k < n → isFree (entryOf (overList unlistedOne s l c) k) ≡ false → LiveBefore (entryOf s k) (entryOf (overList unlistedOne s l c) k)
   unfolding overList
   unlisted-all-so zero below k g f = record { was = f; relisted = record { is = refl } }
   unlisted-all-so (suc c) below k g f =
       let t : Sound (overList unlistedOne s l c) n p (λ i. count i - occurrences l c i) = unlisted-all-sound l c w (λ k h. below k (omega arith)) in
-      let b : Stays (entryOf (overList unlistedOne s l c) k) (entryOf (unlistedOne (overList unlistedOne s l c) (word32 l (4 * c))) k) = unlisted-stays-so (word32 l (4 * c)) (sound-roomy t) (below c (omega arith)) k g f in
-      let a : Stays (entryOf s k) (entryOf (overList unlistedOne s l c) k) = unlisted-all-so c (λ k h. below k (omega arith)) k g (b .was) in
+      let b : LiveBefore (entryOf (overList unlistedOne s l c) k) (entryOf (unlistedOne (overList unlistedOne s l c) (word32 l (4 * c))) k) = unlisted-stays-so (word32 l (4 * c)) (sound-roomy t) (below c (omega arith)) k g f in
+      let a : LiveBefore (entryOf s k) (entryOf (overList unlistedOne s l c) k) = unlisted-all-so c (λ k h. below k (omega arith)) k g (b .was) in
       record { was = a .was; relisted = relisted-then (a .relisted) (b .relisted) }
 
   pub unlisted-all-stays : (c : ℕ) → ((k : ℕ) → k < c → word32 l (4 * k) < n) → (k : ℕ) → k < n → isFree (entryOf (overList unlistedOne s l c) k) ≡ false → entryOf (overList unlistedOne s l c) k ≡ listingsAs (entryOf s k) (count k - occurrences l c k)

@@ -16,7 +16,7 @@ use Rattle.words.specs.Frame.{Apart, under, over}
 use Rattle.words.specs.FrameLaws.{word-framed, framed-refl, framed-trans, framed-wider}
 use Rattle.books.specs.declared.Entry.{Entry}
 use Rattle.books.specs.Entry.{usedOf, place, entryOf, withEntry, isFree}
-use Rattle.books.specs.EntryLaws.{Fits, entry-fits, entry-framed, entry-same, entry-other, framed-entry, used-withEntry, bytes-withEntry, length-withEntry}
+use Rattle.books.specs.EntryLaws.{EntryWords, entry-fits, entry-framed, entry-same, entry-other, framed-entry, used-withEntry, bytes-withEntry, length-withEntry}
 use Rattle.listings.specs.Listing.{noEntry, settled, withUsed, freed, taken, freeUnused, oneMore, withListings, listedOne, unlistedOne, released}
 use Rattle.listings.specs.ListingLaws.{settled-le, used-withUsed, used-word}
 use Rattle.sound.specs.Change.{Roomy, Changed, lengthAs, holdAs, listingsAs, orFree, withLength, withLess}
@@ -67,7 +67,7 @@ unfolding freed
 freed-entry s i k = used-entry (withEntry s i noEntry) (settled (withEntry s i noEntry) (usedOf s)) k
 
 -- a zero entry is of words
-pub no-fits : Fits noEntry
+pub no-fits : EntryWords noEntry
 no-fits = record { start-fits = omega arith; capacity-fits = omega arith; length-fits = omega arith; hold-fits = omega arith; listings-fits = omega arith }
 
 -- one more fits a word
@@ -131,7 +131,7 @@ module _ {s : List ℕ} {n : ℕ} (i : ℕ) (r : Roomy s n) (h : i < n) where
       elsewhere k d (no l) = over (omega arith)
 
   -- a whole entry
-  pub entry-changed : (e : Entry) → Fits e → Changed s (withEntry s i e) n i e
+  pub entry-changed : (e : Entry) → EntryWords e → Changed s (withEntry s i e) n i e
   entry-changed e f =
       record {
         framed = framed-wider 0 (4 + 20 * n) (entry-framed s i e) (omega arith) (omega arith);
@@ -141,7 +141,7 @@ module _ {s : List ℕ} {n : ℕ} (i : ℕ) (r : Roomy s n) (h : i < n) where
       }
 
   -- taken, freed
-  pub taken-changed : (e : Entry) → Fits e → Changed s (taken s i e) n i e
+  pub taken-changed : (e : Entry) → EntryWords e → Changed s (taken s i e) n i e
   unfolding taken
   taken-changed e f =
       by-cond (λ (t : List ℕ). Changed s t n i e) (ltb i (usedOf s))

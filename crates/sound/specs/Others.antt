@@ -12,7 +12,7 @@ use Rattle.words.specs.RunLaws.{read-read}
 use Rattle.words.specs.Frame.{Framed}
 use Rattle.books.specs.declared.Entry.{Entry}
 use Rattle.books.specs.Entry.{entryOf, isFree, isFreeAt}
-use Rattle.books.specs.EntryLaws.{Fits, entry-fits}
+use Rattle.books.specs.EntryLaws.{EntryWords, entry-fits}
 use Rattle.listings.specs.Listing.{taken, freed, listedOne, unlistedOne, released}
 use Rattle.sound.specs.Sound.{Sound, filledBytes}
 use Rattle.sound.specs.Change.{Changed, holdAs, listingsAs, orFree, withLength}
@@ -44,10 +44,10 @@ unused-filled-same {s} {t} {n} {i} pool e c a b f =
 
 module _ {s : List ℕ} {n p : ℕ} {count : ℕ → ℕ} (pool : List ℕ) (i : ℕ) (w : Sound s n p count) (h : i < n) where
   -- taken: of every other number; so of every live one, where number i was free
-  pub taken-filled : (e : Entry) → Fits e → (k : ℕ) → k ≢ i → filledBytes (taken s i e) pool k ≡ filledBytes s pool k
+  pub taken-filled : (e : Entry) → EntryWords e → (k : ℕ) → k ≢ i → filledBytes (taken s i e) pool k ≡ filledBytes s pool k
   taken-filled e f = changed-filled pool (taken-changed i (sound-roomy w) h e f)
 
-  pub taken-filled-live : (e : Entry) → Fits e → isFreeAt s i ≡ true → (k : ℕ) → isFree (entryOf s k) ≡ false → filledBytes (taken s i e) pool k ≡ filledBytes s pool k
+  pub taken-filled-live : (e : Entry) → EntryWords e → isFreeAt s i ≡ true → (k : ℕ) → isFree (entryOf s k) ≡ false → filledBytes (taken s i e) pool k ≡ filledBytes s pool k
   taken-filled-live e f a k g = taken-filled e f k other
     where
       other : k ≢ i

@@ -11,11 +11,11 @@ use Rattle.rules.specs.StepLaws.{coalesced-turn, coalesced-last}
 use Rattle.rules.specs.Held.{holds-ok}
 use Rattle.rules.specs.Stays.{SameSetUp, same-refl, same-trans}
 use Rattle.rules.specs.PushLaws.{Ends, taken-holds, finished-holds}
-use Rattle.going.specs.Run.{Goes}
-use Rattle.going.specs.CallerLaws.{run-bounds}
-use Rattle.going.specs.Firm.{goes-refl, goes-trans}
-use Rattle.going.specs.PartGoes.{taken-goes}
-use Rattle.going.specs.FinishGoes.{rows-small, finished-goes}
+use Rattle.push_safety.specs.Run.{Goes}
+use Rattle.push_safety.specs.CallerLaws.{run-bounds}
+use Rattle.push_safety.specs.Firm.{goes-refl, goes-trans}
+use Rattle.push_safety.specs.PartGoes.{taken-goes}
+use Rattle.push_safety.specs.FinishGoes.{rows-small, finished-goes}
 use Rattle.columns.specs.declared.Step.{Step}
 use Rattle.columns.specs.Step.{Steps}
 use Rattle.routes.specs.declared.Sources.{Sources}

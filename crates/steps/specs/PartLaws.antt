@@ -22,10 +22,10 @@ use Rattle.rules.specs.Held.{holds-ok}
 use Rattle.rules.specs.Stays.{SameSetUp, same-trans}
 use Rattle.rules.specs.SameLaws.{same-values-place}
 use Rattle.rules.specs.PartLaws.{column-holds}
-use Rattle.going.specs.Run.{Run}
-use Rattle.going.specs.CallerLaws.{record-room}
-use Rattle.going.specs.Along.{Along, along-refl, along-trans, along-in}
-use Rattle.going.specs.PartGoes.{column-goes, taken-goes}
+use Rattle.push_safety.specs.Run.{Run}
+use Rattle.push_safety.specs.CallerLaws.{record-room}
+use Rattle.push_safety.specs.Along.{Along, along-refl, along-trans, along-in}
+use Rattle.push_safety.specs.PartGoes.{column-goes, taken-goes}
 use Rattle.columns.specs.declared.Step.{Step}
 use Rattle.columns.specs.Column.{sourceFor}
 use Rattle.columns.specs.Step.{Steps, steps-done, steps-next, steps-stop}
@@ -81,7 +81,7 @@ unfolding partTaken partCopied
 taken-is w₀ w b from n = refl
 
 -- the first c columns are copied
-pub record CopiedTo (w : World) (b : Batch) (x : Sources) (from n c : ℕ) (v : World) : Type 0 where
+pub record ColumnsCopied (w : World) (b : Batch) (x : Sources) (from n c : ℕ) (v : World) : Type 0 where
   pub copied : (w₀ : World) → SameSetUp (w₀ .state) (w .state) → Sourced x w₀ b → forEach c (λ u i. columnCopied w₀ u b i from n) w ≡ ok v
   pub along : Along w v
 
@@ -98,11 +98,11 @@ module _ {w : World} {b : Batch} {x : Sources} {from n : ℕ} (a : Taking w b x 
   pub part-fits : w .state .buffered .0 + n ≤ 65536
   part-fits = omega (arith, a .room, part-few .rows)
 
-  pub copied-none : CopiedTo w b x from n 0 w
+  pub copied-none : ColumnsCopied w b x from n 0 w
   unfolding forEach
   copied-none = record { copied = λ w₀ e s. refl; along = along-refl (a .run) }
 
-  module _ {c : ℕ} {v : World} (k : CopiedTo w b x from n c v) (h : c < w .state .columns) where
+  module _ {c : ℕ} {v : World} (k : ColumnsCopied w b x from n c v) (h : c < w .state .columns) where
     abbrev rowsAt : ℕ → Rows
     rowsAt place = record { column = c; place = place; at = w .state .buffered .0; from = from; count = n }
 
@@ -139,7 +139,7 @@ module _ {w : World} {b : Batch} {x : Sources} {from n : ℕ} (a : Taking w b x 
           for-more c (λ u i. columnCopied w₀ u b i from n) w
           ∙ ap (λ (r : Res). bind r (λ u. columnCopied w₀ u b c from n)) (k .copied w₀ e s)
 
-      pub copied-more : q .number ≡ 0 → CopiedTo w b x from n (c + 1) (world (q .state) slots′ pool′ books′)
+      pub copied-more : q .number ≡ 0 → ColumnsCopied w b x from n (c + 1) (world (q .state) slots′ pool′ books′)
       copied-more o =
           record {
             copied = λ w₀ e s. next-is w₀ e s ∙ sym (column-is w₀ e s) ∙ z .done o;
@@ -171,17 +171,17 @@ module _ {w : World} {b : Batch} {x : Sources} {from n : ℕ} (a : Taking w b x 
           taken-stop : (w₀ : World) {m : ℕ} → forEach (w .state .columns) (λ u i. columnCopied w₀ u b i from n) w ≡ refuse m → partTaken w₀ w b from n ≡ refuse m
           taken-stop w₀ e = taken-is w₀ w b from n ∙ ap (λ (r : Res). bind r (λ u. ok (buffering u (u .state .buffered .0 + n)))) e
 
-  module _ {c : ℕ} {v : World} (k : CopiedTo w b x from n c v) (h : c < w .state .columns) where
+  module _ {c : ℕ} {v : World} (k : ColumnsCopied w b x from n c v) (h : c < w .state .columns) where
     -- what copy_as_is asks, and what it leaves
     pub as-is-asks : {place : ℕ} → place ≡ valuesPlace (w .state) (w .state .place) c → (Part v b (recordOf b c) (rowsAt k h place)) × (getD (w .state .column) c noColumn .kind ≡ columnOf (v .state) c .kind)
     unfolding columnOf
     as-is-asks e = (copied-asks k h e .0, sym (k .along .beside .set-up .kind c))
 
-    pub copied-as-is : (place : ℕ) {slots′ : List ℕ} → getD (x .column) c noSource .way ≡ Way.Copied → copiedBy v b (rowsAt k h place) Way.Copied ≡ ok (world (v .state) slots′ (v .pool) (v .books)) → CopiedTo w b x from n (c + 1) (world (v .state) slots′ (v .pool) (v .books))
+    pub copied-as-is : (place : ℕ) {slots′ : List ℕ} → getD (x .column) c noSource .way ≡ Way.Copied → copiedBy v b (rowsAt k h place) Way.Copied ≡ ok (world (v .state) slots′ (v .pool) (v .books)) → ColumnsCopied w b x from n (c + 1) (world (v .state) slots′ (v .pool) (v .books))
     copied-as-is place y e =
         copied-more k h place {q = record { state = v .state; number = 0 }} (steps-done (ap (λ (i : Way). copiedBy v b (rowsAt k h place) i) y ∙ e)) refl
 
-  pub copied-all : {c : ℕ} {t : BatchCoalescer} {slots pool books : List ℕ} → CopiedTo w b x from n c (world t slots pool books) → c ≤ w .state .columns → w .state .columns ≤ c → Takes w b x from n (record { state = withCounts t (t .place) (t .queued) (w .state .buffered .0 + n); number = 0 }) slots pool books
+  pub copied-all : {c : ℕ} {t : BatchCoalescer} {slots pool books : List ℕ} → ColumnsCopied w b x from n c (world t slots pool books) → c ≤ w .state .columns → w .state .columns ≤ c → Takes w b x from n (record { state = withCounts t (t .place) (t .queued) (w .state .buffered .0 + n); number = 0 }) slots pool books
   copied-all {c} {t} {slots} {pool} {books} k l m =
       record {
         steps = λ w₀ e s. steps-done

@@ -21,12 +21,12 @@ use Rattle.rules.specs.Push.{finished, columnWhole, columnsWhole, queuedWhole, 
 use Rattle.rules.specs.Held.{holds-ok}
 use Rattle.rules.specs.Stays.{same-refl}
 use Rattle.rules.specs.PushLaws.{whole-beside, Ends, finished-holds}
-use Rattle.going.specs.Run.{Run, Readable, Goes}
-use Rattle.going.specs.CallerLaws.{run-bounds}
-use Rattle.going.specs.BooksGo.{go-refl}
-use Rattle.going.specs.Firm.{Firm, FirmGoes, run-firm, firm-refl, firm-trans, reads-go}
-use Rattle.going.specs.AttachGoes.{attached-firm, attached-other}
-use Rattle.going.specs.FinishGoes.{rows-small, finished-goes}
+use Rattle.push_safety.specs.Run.{Run, Readable, Goes}
+use Rattle.push_safety.specs.CallerLaws.{run-bounds}
+use Rattle.push_safety.specs.BooksGo.{go-refl}
+use Rattle.push_safety.specs.Firm.{Firm, FirmGoes, run-firm, firm-refl, firm-trans, reads-go}
+use Rattle.push_safety.specs.AttachGoes.{attached-firm, attached-other}
+use Rattle.push_safety.specs.FinishGoes.{rows-small, finished-goes}
 use Rattle.columns.specs.declared.Step.{Step}
 use Rattle.columns.specs.Step.{Steps, steps-done, steps-refused, steps-next, steps-stop}
 use Rattle.columns.specs.Pushing.{Pushing}

@@ -11,8 +11,8 @@ use Rattle.rules.specs.Steps.{Res, bind, each}
 use Rattle.rules.specs.Views.{filling, bitsCopied, valuesCopied}
 use Rattle.rules.specs.Push.{finished, columnWhole, queuedWhole, partTaken}
 use Rattle.rules.specs.Stays.{SameSetUp}
-use Rattle.going.specs.Run.{Run, Readable}
-use Rattle.going.specs.Firm.{Firm}
+use Rattle.push_safety.specs.Run.{Run, Readable}
+use Rattle.push_safety.specs.Firm.{Firm}
 use Rattle.columns.specs.declared.Step.{Step}
 use Rattle.columns.specs.Step.{Steps}
 use Rattle.routes.specs.declared.Sources.{Sources}

@@ -24,10 +24,10 @@ use Rattle.rules.specs.Batch.{Batch, batch, recordOf, hasBitmap}
 use Rattle.rules.specs.Steps.{each}
 use Rattle.rules.specs.Views.{filling, bitsCopied, valuesCopied, listAttached}
 use Rattle.rules.specs.Push.{columnWhole}
-use Rattle.going.specs.Run.{ColumnReads}
-use Rattle.going.specs.TestedLaws.{Bounds, bounds-say}
-use Rattle.going.specs.Firm.{Firm, FirmGoes, firm-trans}
-use Rattle.going.specs.StepGoes.{bits-firm, values-firm}
+use Rattle.push_safety.specs.Run.{ColumnReads}
+use Rattle.push_safety.specs.TestedLaws.{Bounds, bounds-say}
+use Rattle.push_safety.specs.Firm.{Firm, FirmGoes, firm-trans}
+use Rattle.push_safety.specs.StepGoes.{bits-firm, values-firm}
 use Rattle.in_progress.specs.Part.{Listable, Attaches}
 use Rattle.in_progress.specs.AskLaws.{places-small}
 use Rattle.in_progress.specs.CallerLaws.{listable-at}

@@ -49,12 +49,12 @@ ahead c a b k l h d =
     let p : (1 + c) * suc a ≤ (1 + c) * b = mul-le-mul-left (1 + c) d in
     omega arith
 
-pub data Other (a b : Tally) : Type 0 where
-  slots : (a .slot < b .slot) → Other a b
-  slots′ : (b .slot < a .slot) → Other a b
-  words : (a .slot ≡ b .slot) → 1 ≤ (a .word - b .word) + (b .word - a .word) → Other a b
+pub data OtherTally (a b : Tally) : Type 0 where
+  slots : (a .slot < b .slot) → OtherTally a b
+  slots′ : (b .slot < a .slot) → OtherTally a b
+  words : (a .slot ≡ b .slot) → 1 ≤ (a .word - b .word) + (b .word - a .word) → OtherTally a b
 
-pub tally-other : (s : List ℕ) (t u : Tally) (v : ℕ) → t .numbers ≡ u .numbers → t .columns ≡ u .columns → t .word ≤ t .columns → u .word ≤ u .columns → Other t u → tallyOf (withTally s t v) u ≡ tallyOf s u
+pub tally-other : (s : List ℕ) (t u : Tally) (v : ℕ) → t .numbers ≡ u .numbers → t .columns ≡ u .columns → t .word ≤ t .columns → u .word ≤ u .columns → OtherTally t u → tallyOf (withTally s t v) u ≡ tallyOf s u
 unfolding tallyOf withTally tallyPlace
 tally-other s t u v n c p q (slots d) =
     word32-other s (4 + 20 * t .numbers + 4 * ((1 + t .columns) * t .slot + t .word)) v (4 + 20 * u .numbers + 4 * ((1 + u .columns) * u .slot + u .word))

@@ -20,12 +20,12 @@ use Rattle.rules.specs.SameLaws.{same-views}
 use Rattle.state.specs.SlotLaws.{next-in}
 use Rattle.layout.specs.Few.{Few}
 use Rattle.rules.specs.Steps.{withCounts, withColumn}
-use Rattle.going.specs.BooksGo.{go-refl}
-use Rattle.going.specs.Firm.{FirmGoes, run-firm, firm-run, firm-goes, same-list-length}
-use Rattle.going.specs.StepGoes.{column-cases, column-new, with-column-goes}
-use Rattle.going.specs.FinishGoes.{Shut, shut-spare}
-use Rattle.alike.specs.Tells.{closedAt}
-use Rattle.trial.specs.Trying.{Trying, Tries, TriesColumn, TriesFinish, Closes}
+use Rattle.push_safety.specs.BooksGo.{go-refl}
+use Rattle.push_safety.specs.Firm.{FirmGoes, run-firm, firm-run, firm-goes, same-list-length}
+use Rattle.push_safety.specs.StepGoes.{column-cases, column-new, with-column-goes}
+use Rattle.push_safety.specs.FinishGoes.{Shut, shut-spare}
+use Rattle.trial_truth.specs.Tells.{closedAt}
+use Rattle.trial.specs.Trying.{Trying, Tries, TriesColumn, TriesFinish, ClosesFirst}
 use Rattle.trial.specs.TryingLaws.{marks-refl, trying-roomy, tries-none}
 
 not-number : (k : BufferNumber) → OpenBlock.Closed ≡ OpenBlock.Number k → ⊥
@@ -64,11 +64,11 @@ unfolding closedAt
 close-other s c p y = rw (← p, y)
 
 -- a column that is not of views: what the loop looks at is the kind that set-up fixed
-pub close-plain : {s t : BatchCoalescer} (c : ℕ) {v : Bool} → Closes s t c → v ≡ isView (getD (s .column) c noColumn .kind) → v ≡ false → t ≡ closedAt t c
+pub close-plain : {s t : BatchCoalescer} (c : ℕ) {v : Bool} → ClosesFirst s t c → v ≡ isView (getD (s .column) c noColumn .kind) → v ≡ false → t ≡ closedAt t c
 unfolding isViews columnOf
 close-plain {s} {t} c a p y = close-other t c (p ∙ ap isView (sym (a .set-up .kind c))) y
 
-pub closes-none : (s : BatchCoalescer) → Closes s s 0
+pub closes-none : (s : BatchCoalescer) → ClosesFirst s s 0
 closes-none s =
     record {
       set-up = same-refl s;
@@ -79,14 +79,14 @@ closes-none s =
       shut = λ c l y. absurd (omega arith);
     }
 
-pub closes-more : {s t : BatchCoalescer} (c : ℕ) {u : BatchCoalescer} → Closes s t c → u ≡ closedAt t c → Closes s u (c + 1)
+pub closes-more : {s t : BatchCoalescer} (c : ℕ) {u : BatchCoalescer} → ClosesFirst s t c → u ≡ closedAt t c → ClosesFirst s u (c + 1)
 unfolding closedAt
-closes-more {s} {t} c {u} a e = rw e (by-cond (λ (v : BatchCoalescer). Closes s v (c + 1)) (isViews t c) views other)
+closes-more {s} {t} c {u} a e = rw e (by-cond (λ (v : BatchCoalescer). ClosesFirst s v (c + 1)) (isViews t c) views other)
   where
     v : BatchCoalescer
     v = withColumn t c (columnOf t c .source) OpenBlock.Closed
 
-    views : isViews t c ≡ true → Closes s v (c + 1)
+    views : isViews t c ≡ true → ClosesFirst s v (c + 1)
     views y =
         record {
           set-up = same-trans (a .set-up) (same-column t c (columnOf t c .source) OpenBlock.Closed);
@@ -108,7 +108,7 @@ closes-more {s} {t} c {u} a e = rw e (by-cond (λ (v : BatchCoalescer). Closes s
             let q : d ≡ c = omega arith in
             rw q (ap (λ (x : Column). x .block) (column-new t c (columnOf t c .source) OpenBlock.Closed y))
 
-    other : isViews t c ≡ false → Closes s t (c + 1)
+    other : isViews t c ≡ false → ClosesFirst s t (c + 1)
     other y =
         record {
           set-up = a .set-up;
@@ -125,7 +125,7 @@ closes-more {s} {t} c {u} a e = rw e (by-cond (λ (v : BatchCoalescer). Closes s
             let q : d ≡ c = omega arith in
             absurd (true≢false (sym (rw q at z) ∙ sym (same-views (a .set-up) c) ∙ y))
 
-pub closes-all : {s t : BatchCoalescer} {c : ℕ} → Closes s t c → s .columns ≤ c → Closes s t (s .columns)
+pub closes-all : {s t : BatchCoalescer} {c : ℕ} → ClosesFirst s t c → s .columns ≤ c → ClosesFirst s t (s .columns)
 closes-all a h =
     record {
       set-up = a .set-up;
@@ -138,7 +138,7 @@ closes-all a h =
 
 -- ---- the next slot
 
-module _ {s t : BatchCoalescer} {books : List ℕ} (x : Trying s books) (a : Closes s t (s .columns)) (l : t .queued < t .queue) where
+module _ {s t : BatchCoalescer} {books : List ℕ} (x : Trying s books) (a : ClosesFirst s t (s .columns)) (l : t .queued < t .queue) where
   abbrev u : BatchCoalescer
   u = withCounts t (nextSlot t (t .place)) (t .queued + 1) 0
 
@@ -201,7 +201,7 @@ finish-none e = record { tries = λ books x. tries-none x; empty = λ z. e }
 pub finish-nine : (s : BatchCoalescer) → TriesFinish s (record { state = s; number = 9 })
 finish-nine s = record { tries = λ books x. tries-none x; empty = λ z. absurd (omega arith) }
 
-pub finish-queues : {s t u : BatchCoalescer} → s .queued < s .queue → Closes s t (s .columns) → u ≡ withCounts t (nextSlot t (t .place)) (t .queued + 1) 0 → TriesFinish s (record { state = u; number = 0 })
+pub finish-queues : {s t u : BatchCoalescer} → s .queued < s .queue → ClosesFirst s t (s .columns) → u ≡ withCounts t (nextSlot t (t .place)) (t .queued + 1) 0 → TriesFinish s (record { state = u; number = 0 })
 finish-queues {s} {t} {u} l a e =
     record {
       tries = λ books x. rw e (next-tries x a (omega (arith, a .queued, a .set-up .queue)));
@@ -209,13 +209,13 @@ finish-queues {s} {t} {u} l a e =
     }
 
 -- what next_to_fill asks
-pub closes-place : {s t : BatchCoalescer} {n : ℕ} → Closes s t n → s .place ≤ s .queue → t .place ≤ t .queue
+pub closes-place : {s t : BatchCoalescer} {n : ℕ} → ClosesFirst s t n → s .place ≤ s .queue → t .place ≤ t .queue
 closes-place a h = omega (arith, a .place, a .set-up .queue)
 
-pub closes-queued : {s t : BatchCoalescer} {n : ℕ} → Closes s t n → s .queued < s .queue → t .queued < t .queue
+pub closes-queued : {s t : BatchCoalescer} {n : ℕ} → ClosesFirst s t n → s .queued < s .queue → t .queued < t .queue
 closes-queued a h = omega (arith, a .queued, a .set-up .queue)
 
-pub closes-few : {s t : BatchCoalescer} {n : ℕ} → Closes s t n → Few s → Few t
+pub closes-few : {s t : BatchCoalescer} {n : ℕ} → ClosesFirst s t n → Few s → Few t
 closes-few a f =
     record {
       rows = rw (a .set-up .rows) (f .rows);

@@ -17,8 +17,8 @@ use Rattle.sound.specs.OpLaws.{changed-none, used-lt, used-entry, used-changed}
 use Rattle.room.specs.Trial.{isTrial, wiped as allWiped, untried}
 use Rattle.room.specs.Back.{cleared, Wiped}
 use Rattle.room.specs.BackLaws.{wiped-roomy, wiped-first, cleared-marked, cleared-not}
-use Rattle.trial.specs.Trial.{Same, kept, wiped, Restored}
-use Rattle.trial.specs.Trying.{Unmarked, Still, still, marked, Marks}
+use Rattle.trial.specs.Trial.{SameButFree, kept, wiped, Restored}
+use Rattle.trial.specs.Trying.{Unmarked, StillOrMarked, still, marked, Marks}
 
 -- a number that is not in use is free
 free-beyond : (s : List ℕ) (k : ℕ) → usedOf s ≤ k → isFreeAt s k ≡ true
@@ -50,18 +50,18 @@ module _ {s t : List ℕ} {n : ℕ} (r : Roomy s n) (u : Unmarked s) (m : Marks 
   used-put = used-changed (changed-none 0 back) (usedOf s) (used-lt r)
 
   -- an entry that was wiped, of a number that was not in use
-  beyond-back : (k : ℕ) → k < usedOf t → usedOf s ≤ k → entryOf t k ≡ entryOf s k → Same s (withUsed ended (usedOf s)) k
+  beyond-back : (k : ℕ) → k < usedOf t → usedOf s ≤ k → entryOf t k ≡ entryOf s k → SameButFree s (withUsed ended (usedOf s)) k
   unfolding cleared
   beyond-back k h l e = go (isTrial (entryOf t k)) refl
     where
       at : entryOf (withUsed ended (usedOf s)) k ≡ cleared (entryOf t k)
       at = used-entry ended (usedOf s) k ∙ cleared-all .done k h
 
-      go : (b : Bool) → isTrial (entryOf t k) ≡ b → Same s (withUsed ended (usedOf s)) k
+      go : (b : Bool) → isTrial (entryOf t k) ≡ b → SameButFree s (withUsed ended (usedOf s)) k
       go true z = wiped (free-beyond s k l) (at ∙ rw z)
       go false z = kept (at ∙ rw z e)
 
-  entry-back : (k : ℕ) → Still s t k → Dec (k < usedOf s) → Dec (k < usedOf t) → Same s (withUsed ended (usedOf s)) k
+  entry-back : (k : ℕ) → StillOrMarked s t k → Dec (k < usedOf s) → Dec (k < usedOf t) → SameButFree s (withUsed ended (usedOf s)) k
   entry-back k (still e) d (no o) = kept (used-entry ended (usedOf s) k ∙ cleared-all .left k (omega arith) ∙ e)
   entry-back k (still e) (yes d) (yes o) =
       kept (used-entry ended (usedOf s) k ∙ cleared-all .done k o ∙ ap cleared e ∙ cleared-not (entryOf s k) (u .holds k d))

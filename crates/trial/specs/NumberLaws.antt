@@ -25,16 +25,16 @@ use Rattle.rules.specs.PushLaws.{stepped-holds}
 use Rattle.rules.specs.Stays.{same-refl}
 use Rattle.columns.specs.Pushing.{Pushing}
 use Rattle.columns.specs.SourceLaws.{source-same}
-use Rattle.going.specs.Run.{Readable}
-use Rattle.going.specs.BooksGo.{go-refl}
-use Rattle.going.specs.Firm.{run-firm, reads-go}
+use Rattle.push_safety.specs.Run.{Readable}
+use Rattle.push_safety.specs.BooksGo.{go-refl}
+use Rattle.push_safety.specs.Firm.{run-firm, reads-go}
 use Rattle.routes.specs.declared.Sources.{Sources}
 use Rattle.routes.specs.Sourced.{Sourced}
-use Rattle.alike.specs.Alike.{Alike}
-use Rattle.alike.specs.Like.{numberOf, Apart}
-use Rattle.alike.specs.Tells.{Stands, Tells}
-use Rattle.alike.specs.StandLaws.{like-begins}
-use Rattle.trial.specs.Trial.{Same, kept, wiped, Restored, Answers, Tidy}
+use Rattle.trial_truth.specs.Alike.{Alike}
+use Rattle.trial_truth.specs.Like.{numberOf, OwnBlocks}
+use Rattle.trial_truth.specs.Tells.{BeginsSlot, Tells}
+use Rattle.trial_truth.specs.StandLaws.{like-begins}
+use Rattle.trial.specs.Trial.{SameButFree, kept, wiped, Restored, Answers, Tidy}
 use Rattle.trial.specs.RestoredLaws.{free-used, restored-pushing, restored-sourced}
 
 -- ---- the books
@@ -57,7 +57,7 @@ module _ {s t : List ℕ} {n : ℕ} (r : Restored s t n) where
   restored-exact b w =
       books-ext n (r .bytes) b (r .lengths) (r .used) (λ k h. go k h (r .entries k h)) (λ x l. r .framed .after x l)
     where
-      go : (k : ℕ) → k < n → Same s t k → entryOf t k ≡ entryOf s k
+      go : (k : ℕ) → k < n → SameButFree s t k → entryOf t k ≡ entryOf s k
       go k h (kept e) = e
       go k h (wiped f e) = e ∙ sym (w .zero k h f)
 
@@ -66,11 +66,11 @@ module _ {s t : List ℕ} {n : ℕ} (r : Restored s t n) where
     pub restored-live : (k : ℕ) → k < usedOf s → isFree (entryOf s k) ≡ false → entryOf t k ≡ entryOf s k
     restored-live k h l = go (r .entries k (omega arith))
       where
-        go : Same s t k → entryOf t k ≡ entryOf s k
+        go : SameButFree s t k → entryOf t k ≡ entryOf s k
         go (kept e) = e
         go (wiped f e) = absurd (true≢false (sym (free-used s k h f) ∙ l))
 
-    restored-free : (k : ℕ) → k < usedOf s → Same s t k → isFree (entryOf t k) ≡ isFree (entryOf s k)
+    restored-free : (k : ℕ) → k < usedOf s → SameButFree s t k → isFree (entryOf t k) ≡ isFree (entryOf s k)
     restored-free k h (kept e) = ap isFree e
     restored-free k h (wiped f e) = ap isFree e ∙ no-free ∙ sym (free-used s k h f)
 
@@ -85,7 +85,7 @@ module _ {s t : List ℕ} {n : ℕ} (r : Restored s t n) where
 
 -- ---- the number
 
-module _ {s : BatchCoalescer} {books : List ℕ} {b : Batch} {x : Sources} (p : Pushing s books b) (d : Sourced x (world s [] [] books) b) (a : Apart s books) where
+module _ {s : BatchCoalescer} {books : List ℕ} {b : Batch} {x : Sources} (p : Pushing s books b) (d : Sourced x (world s [] [] books) b) (a : OwnBlocks s books) where
   source-beside : (slots pool books′ : List ℕ) → Sourced x (world s [] [] books′) b → Sourced x (world s slots pool books′) b
   source-beside slots pool books′ q = record { each = λ c h. q .each c h ∙ source-same s slots pool books′ c b }
 
@@ -94,7 +94,7 @@ module _ {s : BatchCoalescer} {books : List ℕ} {b : Batch} {x : Sources} (p : 
     reads-beside {books′} q =
         reads-go {w = world s [] [] books′} {v = world s slots pool books′} (same-refl s) (go-refl (run-firm (q .running .run slots pool e f) .books)) b (q .reads)
 
-    stands : {after : List ℕ} → Restored books after (s .numbers) → Stands s books x b (world s slots pool after) (world s slots pool after)
+    stands : {after : List ℕ} → Restored books after (s .numbers) → BeginsSlot s books x b (world s slots pool after) (world s slots pool after)
     stands {after} r =
         let q : Pushing s after b = restored-pushing p r in
         let u : usedOf books ≤ s .numbers = p .running .run slots pool e f .used in
@@ -112,7 +112,7 @@ room-answers p d t =
     record { number-is = λ a slots pool after e f r. t .tells (world _ slots pool after) (stands p d a slots pool e f r) }
 
 -- what it says: 0 where the steps are not refused, another where they refuse with it
-module _ {s : BatchCoalescer} {books : List ℕ} {b : Batch} {n : ℕ} (t : Answers s books b n) (a : Apart s books) (slots pool : List ℕ) (e : length slots ≡ slotsLength s) (f : length pool ≡ s .pool .0) {after : List ℕ} (r : Restored books after (s .numbers)) where
+module _ {s : BatchCoalescer} {books : List ℕ} {b : Batch} {n : ℕ} (t : Answers s books b n) (a : OwnBlocks s books) (slots pool : List ℕ) (e : length slots ≡ slotsLength s) (f : length pool ≡ s .pool .0) {after : List ℕ} (r : Restored books after (s .numbers)) where
   pub answers-number : numberOf (stepped (world s slots pool after) b) ≡ n
   answers-number = t .number-is a slots pool after e f r
 

@@ -28,14 +28,14 @@ use Rattle.state.specs.Layout.{isViews, listLength}
 use Rattle.rules.specs.Stays.{same-refl, same-column}
 use Rattle.rules.specs.Steps.{withColumn, inBooks}
 use Rattle.columns.specs.SourceLaws.{list-same}
-use Rattle.going.specs.Run.{Goes}
-use Rattle.going.specs.BooksGo.{BooksRun, BooksGo, held-says, held-is, taken-at, taken-go, taken-in}
-use Rattle.going.specs.Firm.{run-firm, same-list-length, within-goes}
-use Rattle.going.specs.StepGoes.{with-column-goes}
-use Rattle.going.specs.OpenGoes.{asked-some}
-use Rattle.going.specs.CallerLaws.{run-bounds}
-use Rattle.alike.specs.Like.{sizeFor, Took, Buffers}
-use Rattle.trial.specs.Trying.{Trying, Still, still, marked, Marks, TriesColumn}
+use Rattle.push_safety.specs.Run.{Goes}
+use Rattle.push_safety.specs.BooksGo.{BooksRun, BooksGo, held-says, held-is, taken-at, taken-go, taken-in}
+use Rattle.push_safety.specs.Firm.{run-firm, same-list-length, within-goes}
+use Rattle.push_safety.specs.StepGoes.{with-column-goes}
+use Rattle.push_safety.specs.OpenGoes.{asked-some}
+use Rattle.push_safety.specs.CallerLaws.{run-bounds}
+use Rattle.trial_truth.specs.Like.{sizeFor, Took, Buffers}
+use Rattle.trial.specs.Trying.{Trying, StillOrMarked, still, marked, Marks, TriesColumn}
 use Rattle.trial.specs.TryingLaws.{column-none}
 
 -- ---- the books
@@ -112,7 +112,7 @@ module _ {s : List ℕ} {n p : ℕ} (capacity : ℕ) (r : BooksRun s n p) (room 
         start = λ k h. start-at k h (ℕ-discrete k i);
       }
 
-  still-at : (k : ℕ) → Dec (k ≡ i) → Still s t k
+  still-at : (k : ℕ) → Dec (k ≡ i) → StillOrMarked s t k
   still-at k (yes d) =
       rw d (marked (f .number .accepted) (ap (λ (e : Entry). e .hold) (changed .same)) (taken-in i mark r (f .number .below)))
   still-at k (no d) = still (changed .other k d)

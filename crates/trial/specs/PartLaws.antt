@@ -17,7 +17,7 @@ use Rattle.rules.specs.SameLaws.{same-views}
 use Rattle.byte_view.specs.declared.Source.{Source}
 use Rattle.columns.specs.declared.Step.{Step}
 use Rattle.columns.specs.ExitLaws.{record-same}
-use Rattle.going.specs.StepGoes.{buffering-goes}
+use Rattle.push_safety.specs.StepGoes.{buffering-goes}
 use Rattle.routes.specs.declared.Sources.{Sources}
 use Rattle.routes.specs.Sourced.{noSource}
 use Rattle.trial.specs.Trying.{Trying, Marks, Tries, TriesColumn, TriesPart, TriesFull, TriesFinish, Triable, Compactable}

@@ -15,12 +15,12 @@ use Rattle.rules.specs.Batch.{Batch, recordOf, listedNumber, rowView, valuePlac
 use Rattle.rules.specs.Stays.{same-refl}
 use Rattle.columns.specs.Column.{sourceFor}
 use Rattle.columns.specs.Pushing.{Pushing}
-use Rattle.going.specs.Run.{Run}
-use Rattle.going.specs.BooksGo.{BooksRun, BooksGo, held-says, held-is}
-use Rattle.going.specs.Firm.{run-firm, reads-go, within-goes}
+use Rattle.push_safety.specs.Run.{Run}
+use Rattle.push_safety.specs.BooksGo.{BooksRun, BooksGo, held-says, held-is}
+use Rattle.push_safety.specs.Firm.{run-firm, reads-go, within-goes}
 use Rattle.routes.specs.declared.Sources.{Sources}
 use Rattle.routes.specs.Sourced.{Sourced}
-use Rattle.trial.specs.Trial.{Same, kept, wiped, Restored}
+use Rattle.trial.specs.Trial.{SameButFree, kept, wiped, Restored}
 use Rattle.trial.specs.TryingLaws.{running-trying}
 
 -- the entry of a number in use that is free
@@ -29,11 +29,11 @@ unfolding isFreeAt
 free-used s k l f = rw (lt-ltb k (usedOf s) l) at f
 
 module _ {s t : List ℕ} {n p : ℕ} (r : BooksRun s n p) (b : Restored s t n) where
-  inside-at : (k : ℕ) → k < usedOf s → Same s t k → entryOf t k .start + entryOf t k .capacity .0 ≤ p
+  inside-at : (k : ℕ) → k < usedOf s → SameButFree s t k → entryOf t k .start + entryOf t k .capacity .0 ≤ p
   inside-at k h (kept e) = rw e (r .inside k h)
   inside-at k h (wiped f e) = rw e (omega arith)
 
-  filled-at : (k : ℕ) → k < usedOf s → Same s t k → entryOf t k .length .0 ≤ entryOf t k .capacity .0
+  filled-at : (k : ℕ) → k < usedOf s → SameButFree s t k → entryOf t k .length .0 ≤ entryOf t k .capacity .0
   filled-at k h (kept e) = rw e (r .filled k h)
   filled-at k h (wiped f e) = rw e (omega arith)
 
@@ -41,7 +41,7 @@ module _ {s t : List ℕ} {n p : ℕ} (r : BooksRun s n p) (b : Restored s t n) 
   held-at : (k : ℕ) → isHeld s k ≡ true → entryOf t k ≡ entryOf s k
   held-at k h = let a = held-says s k h in go (a .0) (a .1) (b .entries k (omega (arith, a .0, r .used)))
     where
-      go : k < usedOf s → (entryOf s k .hold ≡ 0 → ⊥) → Same s t k → entryOf t k ≡ entryOf s k
+      go : k < usedOf s → (entryOf s k .hold ≡ 0 → ⊥) → SameButFree s t k → entryOf t k ≡ entryOf s k
       go l m (kept e) = e
       go l m (wiped f e) = absurd (m (free-says (entryOf s k) (free-used s k l f) .0))
 

@@ -14,9 +14,9 @@ use Rattle.rules.specs.Stays.{same-refl}
 use Rattle.byte_view.specs.declared.Source.{Source}
 use Rattle.columns.specs.Pushing.{Pushing}
 use Rattle.columns.specs.SourceLaws.{source-way}
-use Rattle.going.specs.Run.{Readable}
-use Rattle.going.specs.BooksGo.{go-refl}
-use Rattle.going.specs.Firm.{run-firm, reads-go}
+use Rattle.push_safety.specs.Run.{Readable}
+use Rattle.push_safety.specs.BooksGo.{go-refl}
+use Rattle.push_safety.specs.Firm.{run-firm, reads-go}
 use Rattle.routes.specs.declared.Sources.{Sources}
 use Rattle.routes.specs.Sourced.{Sourced}
 use Rattle.trial.specs.Trying.{Trying, Triable}

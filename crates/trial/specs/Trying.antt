@@ -16,7 +16,7 @@ use Rattle.rules.specs.declared.Way.{Way}
 use Rattle.rules.specs.Batch.{Batch, recordOf}
 use Rattle.rules.specs.Stays.{SameSetUp}
 use Rattle.columns.specs.declared.Step.{Step}
-use Rattle.going.specs.Run.{Run}
+use Rattle.push_safety.specs.Run.{Run}
 use Rattle.routes.specs.declared.Sources.{Sources}
 use Rattle.routes.specs.Sourced.{noSource}
 
@@ -33,9 +33,9 @@ pub record Trying (s : BatchCoalescer) (books : List ℕ) : Type 0 where
   pub run : Run (world s slots pool books)
 
 -- the entry of a number: as it was, or free before and marked now
-pub data Still (s t : List ℕ) (k : ℕ) : Type 0 where
-  still : entryOf t k ≡ entryOf s k → Still s t k
-  marked : isFreeAt s k ≡ true → entryOf t k .hold ≡ 2 → k < usedOf t → Still s t k
+pub data StillOrMarked (s t : List ℕ) (k : ℕ) : Type 0 where
+  still : entryOf t k ≡ entryOf s k → StillOrMarked s t k
+  marked : isFreeAt s k ≡ true → entryOf t k .hold ≡ 2 → k < usedOf t → StillOrMarked s t k
 
 -- t are the books s with entries marked
 pub record Marks (s t : List ℕ) (n : ℕ) : Type 0 where
@@ -43,7 +43,7 @@ pub record Marks (s t : List ℕ) (n : ℕ) : Type 0 where
   pub bytes : Bytes t
   pub more : usedOf s ≤ usedOf t
   pub used : usedOf t ≤ n
-  pub each : (k : ℕ) → k < n → Still s t k
+  pub each : (k : ℕ) → k < n → StillOrMarked s t k
 
 -- what every step of a trial leaves, refused or not
 pub record Tries (s : BatchCoalescer) (books : List ℕ) (t : BatchCoalescer) (books′ : List ℕ) : Type 0 where
@@ -72,7 +72,7 @@ pub record TriesFinish (s : BatchCoalescer) (r : Step) : Type 0 where
   pub empty : r .number ≡ 0 → r .state .buffered .0 ≡ 0
 
 -- t is s with the blocks of the first n columns closed
-pub record Closes (s t : BatchCoalescer) (n : ℕ) : Type 0 where
+pub record ClosesFirst (s t : BatchCoalescer) (n : ℕ) : Type 0 where
   pub set-up : SameSetUp s t
   pub place : t .place ≡ s .place
   pub queued : t .queued ≡ s .queued

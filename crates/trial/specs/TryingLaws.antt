@@ -24,10 +24,10 @@ use Rattle.columns.specs.Pushing.{Running}
 use Rattle.columns.specs.SourceLaws.{run-few, list-within}
 use Rattle.search.specs.Cases.{by-cond}
 use Rattle.rules.specs.Views.{isOpen}
-use Rattle.going.specs.TestedLaws.{Bounds}
-use Rattle.going.specs.Firm.{run-firm}
-use Rattle.going.specs.CallerLaws.{run-bounds, entries-room, entry-room}
-use Rattle.trial.specs.Trying.{Trying, Still, still, marked, Marks, Tries, TriesColumn}
+use Rattle.push_safety.specs.TestedLaws.{Bounds}
+use Rattle.push_safety.specs.Firm.{run-firm}
+use Rattle.push_safety.specs.CallerLaws.{run-bounds, entries-room, entry-room}
+use Rattle.trial.specs.Trying.{Trying, StillOrMarked, still, marked, Marks, Tries, TriesColumn}
 
 -- a state in order whatever slots and pool are beside it is in order beside some
 pub running-trying : {s : BatchCoalescer} {books : List ℕ} → Running s books → Trying s books
@@ -112,7 +112,7 @@ marks-trans {s} {t} {u} a b =
       each = λ k h. go k (a .each k h) (b .each k h);
     }
   where
-    go : (k : ℕ) → Still s t k → Still t u k → Still s u k
+    go : (k : ℕ) → StillOrMarked s t k → StillOrMarked t u k → StillOrMarked s u k
     go k (still p) (still q) = still (q ∙ p)
     go k (still p) (marked f m h) = marked (free-back s t k (a .more) p f) m h
     go k (marked f m h) (still q) = marked f (rw q m) (omega (arith, b .more))

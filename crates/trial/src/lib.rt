@@ -11,10 +11,10 @@ ghost use Rattle.state.specs.Layout.{isViews, listLength};
 ghost use Rattle.rules.specs.Batch.{batch};
 ghost use Rattle.columns.specs.Pushing.{Pushing};
 ghost use Rattle.routes.specs.Sourced.{Sourced};
-ghost use Rattle.alike.specs.Like.{Buffers, TellsAttached, TellsCompacted, TellsColumn};
-ghost use Rattle.alike.specs.Tells.{closedAt, closedTo, TellsPart, TellsFinished, TellsFull, TellsLast, TellsRows, TellsFirst, Tells};
+ghost use Rattle.trial_truth.specs.Like.{Buffers, TellsAttached, TellsCompacted, TellsColumn};
+ghost use Rattle.trial_truth.specs.Tells.{closedAt, closedTo, TellsPart, TellsFinished, TellsFull, TellsLast, TellsRows, TellsFirst, Tells};
 ghost use Rattle.trial.specs.Trial.{Restored, Answers};
-ghost use Rattle.trial.specs.Trying.{Unmarked, Trying, Marks, Tries, TriesColumn, TriesPart, TriesFull, TriesFinish, Closes, Triable, Compactable};
+ghost use Rattle.trial.specs.Trying.{Unmarked, Trying, Marks, Tries, TriesColumn, TriesPart, TriesFull, TriesFinish, ClosesFirst, Triable, Compactable};
 use byte_view::Source;
 use columns::Step;
 use counts::ByteSum;
@@ -206,7 +206,7 @@ fn close_one(s: BatchCoalescer, c: u32) -> BatchCoalescer
 // Every column's block closed.
 fn close_all(s: BatchCoalescer) -> BatchCoalescer
     requires { ⌜ s .columns ≤ 16 ⌝ }
-    ensures { λ r. ⌜ (Closes s r (s .columns)) × (r ≡ closedTo s (s .columns)) ⌝ }
+    ensures { λ r. ⌜ (ClosesFirst s r (s .columns)) × (r ≡ closedTo s (s .columns)) ⌝ }
 {
     let mut t = s;
     let mut c: u32 = 0;

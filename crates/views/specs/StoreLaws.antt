@@ -12,13 +12,13 @@ use Rattle.views.specs.declared.View.{View}
 use Rattle.views.specs.View.{viewOf, withView}
 
 -- a view made of words
-pub record Fits (v : View) : Type 0 where
+pub record ViewWords (v : View) : Type 0 where
   pub length-fits : v .length < 2 ^ 32
   pub prefix-fits : v .prefix < 2 ^ 32
   pub index-fits : v .index < 2 ^ 32
   pub offset-fits : v .offset < 2 ^ 32
 
-pub view-fits : (s : List ℕ) (at : ℕ) → Bytes s → Fits (viewOf s at)
+pub view-fits : (s : List ℕ) (at : ℕ) → Bytes s → ViewWords (viewOf s at)
 unfolding viewOf
 view-fits s at b =
     record {
@@ -55,7 +55,7 @@ view-framed s at v =
     wide k w t a b = framed-wider at (at + 16) (word-framed t k w) a b
 
 -- a view read where it was put
-module _ (s : List ℕ) (at : ℕ) (v : View) (h : at + 16 ≤ length s) (f : Fits v) where
+module _ (s : List ℕ) (at : ℕ) (v : View) (h : at + 16 ≤ length s) (f : ViewWords v) where
   length-same : word32 (withView s at v) at ≡ v .length
   unfolding withView
   length-same =
@@ -100,7 +100,7 @@ pub view-other : (s : List ℕ) (at : ℕ) (v : View) (k : ℕ) → Apart at (at
 view-other s at v k d = framed-view k (view-framed s at v) d
 
 -- bytes stay bytes
-pub bytes-withView : (s : List ℕ) (at : ℕ) (v : View) → Bytes s → Fits v → Bytes (withView s at v)
+pub bytes-withView : (s : List ℕ) (at : ℕ) (v : View) → Bytes s → ViewWords v → Bytes (withView s at v)
 unfolding withView
 bytes-withView s at v b f =
     bytes-withWord32 _ (at + 12) (v .offset)

@@ -8,12 +8,12 @@ use Rattle.state.specs.Layout.{valuesPlace}
 use Rattle.state.specs.World.{world}
 use Rattle.rules.specs.Batch.{batch}
 use Rattle.steps.specs.PlaceLaws.{place-fits, place-more}
-use Rattle.steps.specs.PartLaws.{CopiedTo, part-few, part-columns, part-slot, part-fits, copied-none, copied-asks, copied-more, copied-stop, copied-all, as-is-asks, copied-as-is}
+use Rattle.steps.specs.PartLaws.{ColumnsCopied, part-few, part-columns, part-slot, part-fits, copied-none, copied-asks, copied-more, copied-stop, copied-all, as-is-asks, copied-as-is}
 use Rattle.steps.proofs.copy_part.Statement.{statement}
 use Rattle.steps.proofs.copy_part.Tie as tie
 
 abbrev Inv-loop : tie.InvT-loop
-Inv-loop slots₀ pool₀ books₀ records body rows from n s sources t₀ place₀ c₀ slots pool books t place c = (c ≤ s .columns) × (s .columns ≤ 16) × (length slots ≡ length slots₀) × (length pool ≡ length pool₀) × (length books ≡ length books₀) × (place ≡ valuesPlace s (s .place) c) × (CopiedTo (world s slots₀ pool₀ books₀) (batch rows records body) sources from n c (world t slots pool books))
+Inv-loop slots₀ pool₀ books₀ records body rows from n s sources t₀ place₀ c₀ slots pool books t place c = (c ≤ s .columns) × (s .columns ≤ 16) × (length slots ≡ length slots₀) × (length pool ≡ length pool₀) × (length books ≡ length books₀) × (place ≡ valuesPlace s (s .place) c) × (ColumnsCopied (world s slots₀ pool₀ books₀) (batch rows records body) sources from n c (world t slots pool books))
 
 abbrev μ-loop : tie.MeasureT-loop
 μ-loop slots₀ pool₀ books₀ records body rows from n s sources t₀ place₀ c₀ slots pool books t place c = s .columns - c

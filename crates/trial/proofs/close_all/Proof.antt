@@ -3,15 +3,15 @@ use Prim.Native.Nat.{_≤_, _-_}
 use native.Mathlib.Omega.{arith}
 use borrow.Author.Needs.{needs}
 use mathlib.Core.Path.{_≡_}
-use Rattle.alike.specs.Tells.{closedTo}
-use Rattle.alike.specs.FinishLaws.{closed-none, closed-more, closed-all}
+use Rattle.trial_truth.specs.Tells.{closedTo}
+use Rattle.trial_truth.specs.FinishLaws.{closed-none, closed-more, closed-all}
 use Rattle.trial.specs.CloseLaws.{closes-none, closes-more, closes-all, close-plain}
-use Rattle.trial.specs.Trying.{Closes}
+use Rattle.trial.specs.Trying.{ClosesFirst}
 use Rattle.trial.proofs.close_all.Statement.{statement}
 use Rattle.trial.proofs.close_all.Tie as tie
 
 abbrev Inv-loop : tie.InvT-loop
-Inv-loop s t₀ c₀ t c = (c ≤ s .columns) × (Closes s t c) × (t ≡ closedTo s c)
+Inv-loop s t₀ c₀ t c = (c ≤ s .columns) × (ClosesFirst s t c) × (t ≡ closedTo s c)
 
 abbrev μ-loop : tie.MeasureT-loop
 μ-loop s t₀ c₀ t c = s .columns - c

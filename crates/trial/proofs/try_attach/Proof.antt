@@ -1,6 +1,6 @@
 -- `trial::try_attach` meets its contract.
 use borrow.Author.Needs.{needs}
-use Rattle.alike.specs.TellLaws.{tells-attached, tells-full}
+use Rattle.trial_truth.specs.TellLaws.{tells-attached, tells-full}
 use Rattle.trial.specs.CloseLaws.{column-shut}
 use Rattle.trial.specs.TryingLaws.{trying-column, trying-list, column-none}
 use Rattle.trial.proofs.try_attach.Statement.{statement}

@@ -1,6 +1,6 @@
 -- `trial::try_column` meets its contract.
 use borrow.Author.Needs.{needs}
-use Rattle.alike.specs.TellLaws.{tells-copied, tells-attaches, tells-compacts}
+use Rattle.trial_truth.specs.TellLaws.{tells-copied, tells-attaches, tells-compacts}
 use Rattle.trial.specs.TryingLaws.{column-none}
 use Rattle.trial.proofs.try_column.Statement.{statement}
 use Rattle.trial.proofs.try_column.Tie as tie

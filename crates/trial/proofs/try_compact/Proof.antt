@@ -1,6 +1,6 @@
 -- `trial::try_compact` meets its contract.
 use borrow.Author.Needs.{needs}
-use Rattle.alike.specs.TellLaws.{tells-new, tells-fits, tells-walked}
+use Rattle.trial_truth.specs.TellLaws.{tells-new, tells-fits, tells-walked}
 use Rattle.trial.specs.TryingLaws.{trying-column, trying-list, trying-block, closed-most, trying-roomy, column-none}
 use Rattle.trial.proofs.try_compact.Statement.{statement}
 use Rattle.trial.proofs.try_compact.Tie as tie

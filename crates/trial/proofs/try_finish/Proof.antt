@@ -1,6 +1,6 @@
 -- `trial::try_finish` meets its contract.
 use borrow.Author.Needs.{needs}
-use Rattle.alike.specs.FinishLaws.{tells-idle, tells-queued, tells-nine}
+use Rattle.trial_truth.specs.FinishLaws.{tells-idle, tells-queued, tells-nine}
 use Rattle.trial.specs.CloseLaws.{finish-none, finish-nine, finish-queues, closes-place, closes-queued, closes-few}
 use Rattle.trial.proofs.try_finish.Statement.{statement}
 use Rattle.trial.proofs.try_finish.Tie as tie

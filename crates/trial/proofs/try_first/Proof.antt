@@ -1,6 +1,6 @@
 -- `trial::try_first` meets its contract.
 use borrow.Author.Needs.{needs}
-use Rattle.alike.specs.StandLaws.{whole-tells, first-follows, first-stops}
+use Rattle.trial_truth.specs.StandLaws.{whole-tells, first-follows, first-stops}
 use Rattle.trial.specs.PartLaws.{first-asks}
 use Rattle.trial.specs.TryingLaws.{trying-few, trying-place}
 use Rattle.trial.proofs.try_first.Statement.{statement}

@@ -1,6 +1,6 @@
 -- `trial::try_full` meets its contract.
 use borrow.Author.Needs.{needs}
-use Rattle.alike.specs.CutLaws.{full-follows, full-stops}
+use Rattle.trial_truth.specs.CutLaws.{full-follows, full-stops}
 use Rattle.trial.specs.PartLaws.{full-done, full-refused}
 use Rattle.trial.specs.TryingLaws.{trying-few, trying-place}
 use Rattle.trial.proofs.try_full.Statement.{statement}

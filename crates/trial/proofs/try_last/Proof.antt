@@ -1,6 +1,6 @@
 -- `trial::try_last` meets its contract.
 use borrow.Author.Needs.{needs}
-use Rattle.alike.specs.CutLaws.{last-follows, last-ends, last-stops}
+use Rattle.trial_truth.specs.CutLaws.{last-follows, last-ends, last-stops}
 use Rattle.trial.specs.PartLaws.{last-done}
 use Rattle.trial.specs.TryingLaws.{trying-bounds, trying-few, trying-place}
 use Rattle.trial.proofs.try_last.Statement.{statement}

@@ -4,9 +4,9 @@ use mathlib.Core.Path.{_≡_, refl}
 use native.Mathlib.Omega.{arith}
 use lib.ListN.{length}
 use borrow.Author.Needs.{needs}
-use Rattle.alike.specs.Tells.{TellsTo}
-use Rattle.alike.specs.TellLaws.{tells-copied}
-use Rattle.alike.specs.PartLaws.{to-none, to-more, part-stops, part-tells}
+use Rattle.trial_truth.specs.Tells.{TellsTo}
+use Rattle.trial_truth.specs.TellLaws.{tells-copied}
+use Rattle.trial_truth.specs.PartLaws.{to-none, to-more, part-stops, part-tells}
 use Rattle.trial.specs.PartLaws.{record-asks, column-in, column-asks, part-refused, part-done}
 use Rattle.trial.specs.TryingLaws.{trying-bounds, column-none, column-trans, tries-length}
 use Rattle.trial.specs.Trying.{TriesColumn}

@@ -5,8 +5,8 @@ use native.Mathlib.Omega.{arith}
 use lib.ListN.{length}
 use borrow.Author.Needs.{needs}
 use Rattle.rules.specs.Batch.{batch}
-use Rattle.alike.specs.Tells.{TellsCut}
-use Rattle.alike.specs.CutLaws.{cut-first, cut-more, cut-stops, cut-last}
+use Rattle.trial_truth.specs.Tells.{TellsCut}
+use Rattle.trial_truth.specs.CutLaws.{cut-first, cut-more, cut-stops, cut-last}
 use Rattle.trial.specs.PartLaws.{triable-full, triable-last, turn-done, turn-below, turn-marks, turn-refused}
 use Rattle.trial.specs.TryingLaws.{trying-bounds, tries-none, tries-length}
 use Rattle.trial.specs.Trying.{Tries}
