@@ -170,7 +170,7 @@ fn append_view(
 }
 
 // n views, each with its bytes behind the `filled` bytes of the block: answers how many are filled then.
-pub fn append_views_and_copy_strings(
+pub fn append_views_and_copy_strings_inner(
     slots: &mut [u8],
     pool: &mut [u8],
     books: &[u8],

@@ -23,7 +23,7 @@ use Rattle.rules.specs.Steps.{each, counting, withLimit}
 use Rattle.rules.specs.Calls.{Answered, pushCall, finishCall, listDropped, uncounted, dropped, dropCall, registerCall, letGoCall, readRow, rowRefusal, bufferNumberCall, bufferCall, limitOf, bufferedCount, hasCompleted, isEmpty}
 use Rattle.rules.specs.CallLaws.{drop-tested, drop-empty, drop-front}
 use Rattle.rules.specs.RegisterLaws.{register-tested, register-steps, let-go-tested, let-go-steps}
-use Rattle.columns.specs.declared.Step.{Step}
+use Rattle.rules.specs.declared.Step.{Step}
 use Rattle.completed.specs.declared.Dropped.{Dropped}
 use Rattle.completed.specs.Drop.{Drops}
 use Rattle.reads.specs.Reads.{RegistersCall, LetsGoCall}

@@ -6,7 +6,7 @@ use mathlib.Core.List.{List}
 use Rattle.state.specs.World.{World, world}
 use Rattle.rules.specs.Batch.{Batch}
 use Rattle.rules.specs.Calls.{Answered, pushCall}
-use Rattle.columns.specs.declared.Step.{Step}
+use Rattle.rules.specs.declared.Step.{Step}
 use Rattle.rules.specs.CallLaws.{push-done, push-not}
 use Rattle.coalesce.specs.declared.Verdict.{Verdict}
 use Rattle.coalesce.specs.Push.{verdictOf, Unchanged, Judged, Orderly, Pushes}

@@ -16,7 +16,7 @@ use Rattle.rules.specs.Ranges.{inBounds, fitsSetUp}
 use Rattle.rules.specs.Calls.{Wanted, newState, setUpCall}
 use Rattle.rules.specs.CallLaws.{set-up-done, set-up-not}
 use Rattle.push_safety.specs.TestedLaws.{bounds-say}
-use Rattle.columns.specs.declared.Step.{Step}
+use Rattle.rules.specs.declared.Step.{Step}
 use Rattle.set_up.specs.SetUp.{padded, wantedOf, SetsUp}
 use Rattle.crossing.specs.Cross.{kindsTo, wordsFrom}
 use Rattle.crossing.specs.CrossLaws.{kinds-at}

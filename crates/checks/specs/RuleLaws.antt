@@ -25,11 +25,6 @@ use Rattle.rules.specs.Batch.{batch, recordOf, hasBitmap}
 use Rattle.rules.specs.Checks.{isRuled, inBody, bitmapNeed, liesWithin, heldAll}
 use Rattle.checks.specs.Checked.{bitRuled, listRuled, bitsWithin, Pooled, Heeded}
 
--- a record from its eight words
-pub record-is : (records : List ℕ) (c : ℕ) {k v b f l n x y : ℕ} → k ≡ word32 records (32 * c) → v ≡ word32 records (32 * c + 4) → b ≡ word32 records (32 * c + 8) → f ≡ word32 records (32 * c + 12) → l ≡ word32 records (32 * c + 16) → n ≡ word32 records (32 * c + 20) → x ≡ word32 records (32 * c + 24) → y ≡ word32 records (32 * c + 28) → record { kind = k; values = v; validity = b; first = f; list = l; count = n; spare = x; spare2 = y } ≡ recordOf (batch 0 records []) c
-unfolding recordOf
-record-is records c p q r s t u v w = rw (p, q, r, s, t, u, v, w)
-
 -- ---- 4
 
 module _ (r : ColumnRecord) where

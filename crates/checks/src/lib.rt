@@ -21,32 +21,11 @@ use state::Column;
 use views::Buffer;
 use views::View;
 
-// The start of validity that says that there is none.
-pub const NO_VALIDITY: u32 = 4294967295;
-
-// Column c's record.
-pub fn record_at(records: &[u8], c: u32) -> ColumnRecord
-    requires { ⌜ (c < 16) × (32 * c + 32 ≤ length (now records)) ⌝ }
-    ensures { λ r. ⌜ r ≡ recordOf (batch 0 (now (records .entry)) []) c ⌝ }
-{
-    let at = 32 * (c as usize);
-    ColumnRecord {
-        kind: words::get32(records, at),
-        values: words::get32(records, at + 4),
-        validity: words::get32(records, at + 8),
-        first: words::get32(records, at + 12),
-        list: words::get32(records, at + 16),
-        count: words::get32(records, at + 20),
-        spare: words::get32(records, at + 24),
-        spare2: words::get32(records, at + 28),
-    }
-}
-
 // 4: no validity, no first bit.
 fn bit_ruled(r: ColumnRecord) -> bool
     ensures { λ x. ⌜ x ≡ bitRuled r ⌝ }
 {
-    if r.validity == NO_VALIDITY {
+    if r.validity == records::NO_VALIDITY {
         r.first == 0
     } else {
         true
@@ -113,7 +92,7 @@ fn bits_in_body(r: ColumnRecord, rows: u32, size: u64) -> bool
     requires { ⌜ rows ≤ 65536 ⌝ }
     ensures { λ x. ⌜ x ≡ bitsWithin r rows size ⌝ }
 {
-    if r.validity == NO_VALIDITY {
+    if r.validity == records::NO_VALIDITY {
         true
     } else {
         in_body(r.validity, bitmap_need(r.first, rows), size)
@@ -251,7 +230,7 @@ fn column_fault(
 {
     let kind = column.kind;
     let width = layout::width_in(kind) as u32;
-    let r = record_at(records, c);
+    let r = records::record_at(records, c);
     if keeps_rules(r, kind) {
         if lies_in_body(r, rows, width, body.len() as u64) {
             if all_held(books, body, r.list, r.count) {

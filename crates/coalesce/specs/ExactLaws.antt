@@ -10,8 +10,8 @@ use Rattle.books.specs.Entry.{entryOf, isFree}
 use Rattle.books.specs.EntryLaws.{free-says}
 use Rattle.sound.specs.Sound.{Sound}
 use Rattle.room.specs.BackLaws.{sound-clean}
-use Rattle.columns.specs.declared.Step.{Step}
-use Rattle.columns.specs.Step.{Steps}
+use Rattle.rules.specs.declared.Step.{Step}
+use Rattle.rules.specs.Leaves.{Steps}
 use Rattle.state.specs.declared.BatchCoalescer.{BatchCoalescer}
 use Rattle.state.specs.World.{World, world}
 use Rattle.rules.specs.Batch.{Batch}

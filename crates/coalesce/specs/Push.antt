@@ -13,7 +13,7 @@ use Rattle.trial.specs.Trial.{Restored, Tidy}
 use Rattle.trial.specs.Trying.{Unmarked}
 use Rattle.state.specs.declared.BatchCoalescer.{BatchCoalescer}
 use Rattle.state.specs.Layout.{slotsLength}
-use Rattle.columns.specs.declared.Step.{Step}
+use Rattle.rules.specs.declared.Step.{Step}
 use Rattle.state.specs.World.{World, world}
 use Rattle.rules.specs.declared.Fault.{Fault}
 use Rattle.rules.specs.Batch.{Batch}

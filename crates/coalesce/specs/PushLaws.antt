@@ -10,7 +10,7 @@ use native.Mathlib.Omega.{arith}
 use lib.ListN.{length}
 use borrow.Author.Tests.{ne-eqb}
 use Rattle.words.specs.WordLaws.{Bytes}
-use Rattle.columns.specs.declared.Step.{Step}
+use Rattle.rules.specs.declared.Step.{Step}
 use Rattle.columns.specs.Pushing.{Running, Pushing}
 use Rattle.checks.specs.Checked.{Pooled}
 use Rattle.checks.specs.RuleLaws.{pooled}

@@ -7,8 +7,8 @@ ghost use Rattle.rules.specs.Batch.{batch};
 ghost use Rattle.rules.specs.Calls.{finishCall};
 ghost use Rattle.finishing.specs.Finish.{answered};
 ghost use Rattle.coalesce.specs.Push.{Judges, Ready, Does, Pushes};
-use columns::Step;
 use counts::RowCount;
+use rules::Step;
 use state::BatchCoalescer;
 
 // What the tests of a push say.

@@ -24,17 +24,13 @@ use Rattle.rules.specs.Steps.{withColumn}
 use Rattle.rules.specs.Views.{hasBlock, isOpen}
 use Rattle.byte_view.specs.Copying.{capacities, Entered}
 use Rattle.byte_view.specs.RuleLaws.{ideal-is, actual-is}
+use Rattle.records.specs.RecordLaws.{record-same}
 use Rattle.columns.specs.Column.{sourceFor, closedLength, Sourceable}
 
 -- with_column: the kind is the column's own
 pub kept-kind : (s : BatchCoalescer) (c : ℕ) (source : BufferSource) (block : OpenBlock) {k : Column} → k ≡ columnOf s c → set (s .column) c (record { kind = k .kind; source = source; block = block }) ≡ withColumn s c source block .column
 kept-kind s c source block e =
     ap (λ (x : Column). set (s .column) c (record { kind = x .kind; source = source; block = block })) e
-
--- a record reads the records only
-pub record-same : (records body : List ℕ) (rows c : ℕ) → recordOf (batch 0 records []) c ≡ recordOf (batch rows records body) c
-unfolding recordOf
-record-same records body rows c = refl
 
 first-value : (s : BatchCoalescer) (books : List ℕ) (b : Batch) (c : ℕ) → valuePlace (world s [] [] books) b c 0 ≡ recordOf b c .values
 unfolding valuePlace

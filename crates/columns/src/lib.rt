@@ -5,9 +5,8 @@ ghost use mathlib.Core.List.{[]};
 ghost use Prim.Native.Nat.{_+_, _*_, _-_, _≤_, _<_, _^_};
 ghost use lib.ListN.{length};
 ghost use Rattle.books.specs.Entry.{entryOf};
-ghost use Rattle.tallies.specs.Tally.{withTally};
 ghost use Rattle.state.specs.World.{world};
-ghost use Rattle.state.specs.Layout.{tally, booksLength, listLength};
+ghost use Rattle.state.specs.Layout.{booksLength, listLength};
 ghost use Rattle.layout.specs.Few.{Few};
 ghost use Rattle.rules.specs.Batch.{batch};
 ghost use Rattle.rules.specs.Steps.{withColumn};
@@ -20,13 +19,6 @@ use rules::Way;
 use state::BatchCoalescer;
 use state::Column;
 use state::OpenBlock;
-use tallies::Tally;
-
-// What a step leaves: the state, and the number of its refusal, or 0.
-pub struct Step {
-    pub state: BatchCoalescer,
-    pub number: u32,
-}
 
 // The state with another block size and another block in column c.
 pub fn with_column(
@@ -62,7 +54,7 @@ pub fn set_source(
     ensures { λ r. ⌜ r ≡ sourceFor (world s [] [] (now (books .entry))) (batch rows (now (records .entry)) (now (body .entry))) c ⌝ }
 {
     if layout::is_views(s, c) {
-        let r = checks::record_at(records, c);
+        let r = records::record_at(records, c);
         let ideal = byte_view::ideal_of(body, r.values as usize, rows);
         let actual = byte_view::actual_of(books, body, r.list as usize, r.count);
         let way = byte_view::way_of(ideal, actual);
@@ -75,27 +67,13 @@ pub fn set_source(
     }
 }
 
-// The length of the list of column c of the slot being filled.
-pub fn put_list_length(s: BatchCoalescer, books: &mut [u8], c: u32, n: u32)
-    requires { ⌜ (Few s) × (s .place ≤ s .queue) × (c < s .columns) × (length (now books) ≡ booksLength s) ⌝ }
-    ensures { λ _. ⌜ now (books .exit) ≡ withTally (now (books .entry)) (tally s (s .place) (c + 1)) n ⌝ }
-{
-    let t = Tally {
-        numbers: s.numbers,
-        columns: s.columns,
-        slot: s.place,
-        word: c + 1,
-    };
-    tallies::put_tally(books, t, n);
-}
-
 // How many numbers that list will have when the open block has joined it.
 pub fn list_closed(s: BatchCoalescer, books: &[u8], c: u32) -> u32
     requires { ⌜ (Few s) × (s .place ≤ s .queue) × (c < s .columns) × (length (now books) ≡ booksLength s)
         × (listLength (world s [] [] (now books)) (s .place) c ≤ s .lists) ⌝ }
     ensures { λ r. ⌜ (r ≡ closedLength (world s [] [] (now (books .entry))) c) × (r ≤ 1025) ⌝ }
 {
-    let n = ranges::list_length(s, books, s.place, c);
+    let n = slot_counts::list_length(s, books, s.place, c);
     let block = layout::column_of(s, c).block;
     match block {
         OpenBlock::Closed => n,

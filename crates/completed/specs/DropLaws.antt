@@ -23,7 +23,7 @@ use Rattle.state.specs.World.{World, world}
 use Rattle.state.specs.Layout.{isViews, tally, listPlace, booksLength, rowsIn, listLength, queuedSlot}
 use Rattle.state.specs.LayoutLaws.{column-in, bitmap-follows, list-follows}
 use Rattle.layout.specs.PlaceLaws.{list-below}
-use Rattle.ranges.specs.RangeLaws.{entries-room, rows-room, length-room}
+use Rattle.ranges.specs.RangeLaws.{entries-room}
 use Rattle.ranges.specs.SaysLaws.{says-used, says-no-list, says-few-listed, says-number}
 use Rattle.rules.specs.Ranges.{tested}
 use Rattle.rules.specs.Steps.{each, counting, withCounts}
@@ -168,10 +168,6 @@ module _ (s : BatchCoalescer) (books : List ℕ) (slot : ℕ) where
 
   pub counts-all : (k : ℕ) {t : List ℕ} → t ≡ countsOff s books slot k → k ≤ 1 + s .columns → s .columns < k → t ≡ countsOff s books slot (1 + s .columns)
   counts-all k p a b = let e : k ≡ 1 + s .columns = omega arith in p ∙ ap (countsOff s books slot) e
-
-pub count-room : (s : BatchCoalescer) (slot k : ℕ) {m L : ℕ} → slot ≤ s .queue → k ≤ s .columns → m ≡ booksLength s → L ≡ m → tallyPlace (tally s slot k) + 4 ≤ L
-count-room s slot zero h l e f = rows-room s slot h (f ∙ e)
-count-room s slot (suc c) h l e f = rw (sym (add-one c)) (length-room s slot c h (omega arith) (f ∙ e))
 
 -- ---- the definitions on worlds are these on books
 

@@ -13,7 +13,6 @@ ghost use Rattle.ranges.specs.Passed.{PassedTests};
 ghost use Rattle.completed.specs.Drop.{listOff, listsOff, countsOff, Droppable, DropsFront, Drops};
 use counts::RowCount;
 use state::BatchCoalescer;
-use tallies::Tally;
 
 // What dropping answers: the state, the number of the refusal or 0, and the rows of the batch.
 pub struct Dropped {
@@ -27,7 +26,7 @@ fn drop_list(s: BatchCoalescer, slots: &[u8], books: &mut [u8], slot: u32, c: u3
     requires { ⌜ (Droppable s (now slots) (now books) slot) × (c < s .columns) ⌝ }
     ensures { λ _. ⌜ now (books .exit) ≡ listOff s (now (slots .entry)) (now (books .entry)) slot c ⌝ }
 {
-    let n = ranges::list_length(s, books, slot, c);
+    let n = slot_counts::list_length(s, books, slot, c);
     if n == 0 {
         return;
     }
@@ -54,13 +53,7 @@ fn uncount(s: BatchCoalescer, books: &mut [u8], slot: u32)
 {
     let mut k: u32 = 0;
     while k <= s.columns {
-        let t = Tally {
-            numbers: s.numbers,
-            columns: s.columns,
-            slot,
-            word: k,
-        };
-        tallies::put_tally(books, t, 0);
+        slot_counts::put_count(s, books, slot, k, 0);
         k += 1;
     }
 }
@@ -71,7 +64,7 @@ fn drop_front(s: BatchCoalescer, slots: &[u8], books: &mut [u8]) -> Dropped
     ensures { λ r. ⌜ DropsFront s (now (slots .entry)) (now (books .entry)) (now (books .exit)) r ⌝ }
 {
     let slot = layout::front_slot(s);
-    let rows = ranges::rows_in(s, books, slot);
+    let rows = slot_counts::rows_in(s, books, slot);
     drop_lists(s, slots, books, slot);
     uncount(s, books, slot);
     let mut t = s;

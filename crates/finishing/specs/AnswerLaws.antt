@@ -10,8 +10,8 @@ use Rattle.rules.specs.Held.{holds-not}
 use Rattle.rules.specs.Push.{finished, ifFull}
 use Rattle.rules.specs.PushLaws.{finished-holds, full-holds}
 use Rattle.rules.specs.Calls.{Answered, orOld}
-use Rattle.columns.specs.declared.Step.{Step}
-use Rattle.columns.specs.Step.{Steps}
+use Rattle.rules.specs.declared.Step.{Step}
+use Rattle.rules.specs.Leaves.{Steps}
 use Rattle.finishing.specs.Finish.{answered, Finishes}
 
 module _ (w : World) {slots pool books : List ℕ} where

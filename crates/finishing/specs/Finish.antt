@@ -11,7 +11,7 @@ use Rattle.rules.specs.Steps.{Res, each}
 use Rattle.rules.specs.Views.{closed}
 use Rattle.rules.specs.Calls.{Answered, orOld}
 use Rattle.push_safety.specs.Along.{Along}
-use Rattle.columns.specs.declared.Step.{Step}
+use Rattle.rules.specs.declared.Step.{Step}
 use Rattle.open_blocks.specs.Open.{Booked}
 
 -- state and books are in order, beside slots of the right length

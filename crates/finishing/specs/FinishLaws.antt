@@ -22,7 +22,7 @@ use Rattle.rules.specs.PartLaws.{closed-beside}
 use Rattle.push_safety.specs.Run.{Run}
 use Rattle.push_safety.specs.BlockGoes.{closed-goes}
 use Rattle.push_safety.specs.Along.{Along, along-refl, along-trans, along-in}
-use Rattle.columns.specs.declared.Step.{Step}
+use Rattle.rules.specs.declared.Step.{Step}
 use Rattle.columns.specs.Pushing.{Running}
 use Rattle.open_blocks.specs.Open.{FillingViews, ClosesBlock}
 use Rattle.open_blocks.specs.AskLaws.{zeros, length-zeros, run-booked, booked-few, booked-place, booked-books}

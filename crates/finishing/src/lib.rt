@@ -9,9 +9,8 @@ ghost use Rattle.layout.specs.Few.{Few};
 ghost use Rattle.rules.specs.Steps.{withCounts};
 ghost use Rattle.rules.specs.Push.{finished, ifFull};
 ghost use Rattle.finishing.specs.Finish.{Closable, ClosesOne, ClosesAll, Finishes};
-use columns::Step;
+use rules::Step;
 use state::BatchCoalescer;
-use tallies::Tally;
 
 // The open block of column c joins its list, if it is one of views.
 fn close_one(s: BatchCoalescer, slots: &mut [u8], books: &mut [u8], c: u32) -> BatchCoalescer
@@ -50,14 +49,8 @@ pub fn queue_slot(s: BatchCoalescer, books: &mut [u8], rows: u32) -> BatchCoales
     ensures { λ r. ⌜ (r ≡ withCounts s (nextSlot s (s .place)) (s .queued + 1) 0)
         × (now (books .exit) ≡ withTally (now (books .entry)) (tally s (s .place) 0) rows) ⌝ }
 {
-    let t = Tally {
-        numbers: s.numbers,
-        columns: s.columns,
-        slot: s.place,
-        word: 0,
-    };
-    tallies::put_tally(books, t, rows);
-    routes::next_to_fill(s)
+    slot_counts::put_count(s, books, s.place, 0, rows);
+    slot_counts::next_to_fill(s)
 }
 
 // finish_buffered_batch: nothing with 0 buffered; else each open block joins its list and the slot is queued. 9, and nothing changes.

@@ -27,7 +27,7 @@ use Rattle.state.specs.Layout.{widthOf, isViews, cellPlace, listPlace, booksLen
 use Rattle.state.specs.LayoutLaws.{views-width, bitmap-in, list-follows}
 use Rattle.layout.specs.Few.{Few}
 use Rattle.layout.specs.PlaceLaws.{list-below}
-use Rattle.columns.specs.Step.{steps-done, steps-refused}
+use Rattle.rules.specs.Leaves.{steps-done, steps-refused}
 use Rattle.columns.specs.Column.{closedLength}
 use Rattle.columns.specs.SourceLaws.{list-same, closed-answer, list-within}
 use Rattle.push_safety.specs.CallerLaws.{run-bounds, cells-room, values-room, long-index, list-listed}

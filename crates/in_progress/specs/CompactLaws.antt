@@ -23,8 +23,8 @@ use Rattle.state.specs.declared.Column.{Column}
 use Rattle.state.specs.declared.OpenBlock.{OpenBlock}
 use Rattle.state.specs.World.{World, world, columnOf}
 use Rattle.state.specs.LayoutLaws.{views-width}
-use Rattle.columns.specs.declared.Step.{Step}
-use Rattle.columns.specs.Step.{Steps, steps-done, steps-next, steps-stop}
+use Rattle.rules.specs.declared.Step.{Step}
+use Rattle.rules.specs.Leaves.{Steps, steps-done, steps-next, steps-stop}
 use Rattle.columns.specs.SourceLaws.{rest-answer}
 use Rattle.push_safety.specs.Along.{Along}
 use Rattle.push_safety.specs.BlockGoes.{open-entry}

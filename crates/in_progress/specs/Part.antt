@@ -16,8 +16,8 @@ use Rattle.state.specs.declared.BatchCoalescer.{BatchCoalescer}
 use Rattle.state.specs.World.{World, world}
 use Rattle.state.specs.Layout.{isViews, valuesPlace, slotsLength, booksLength, listLength}
 use Rattle.layout.specs.Few.{Few}
-use Rattle.columns.specs.declared.Step.{Step}
-use Rattle.columns.specs.Step.{Steps}
+use Rattle.rules.specs.declared.Step.{Step}
+use Rattle.rules.specs.Leaves.{Steps}
 use Rattle.push_safety.specs.Run.{Run, Readable}
 
 -- ---- rows

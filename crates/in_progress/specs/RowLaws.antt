@@ -22,9 +22,9 @@ use Rattle.state.specs.declared.BatchCoalescer.{BatchCoalescer}
 use Rattle.state.specs.World.{World, world}
 use Rattle.state.specs.Layout.{widthOf, isViews, valuesBytes, bitmapPlace, bitmapBytes, cellPlace}
 use Rattle.state.specs.LayoutLaws.{bits-fit}
-use Rattle.columns.specs.declared.Step.{Step}
+use Rattle.rules.specs.declared.Step.{Step}
 use Rattle.rules.specs.Steps.{ok}
-use Rattle.columns.specs.Step.{Steps, steps-done}
+use Rattle.rules.specs.Leaves.{Steps, steps-done}
 use Rattle.push_safety.specs.CallerLaws.{cells-room, bitmap-room, values-room}
 use Rattle.push_safety.specs.StepGoes.{bits-goes}
 use Rattle.push_safety.specs.Along.{Along}

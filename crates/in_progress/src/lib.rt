@@ -11,15 +11,15 @@ ghost use Rattle.rules.specs.declared.Way.{Way};
 ghost use Rattle.rules.specs.Batch.{batch, recordOf};
 ghost use Rattle.rules.specs.Steps.{ok};
 ghost use Rattle.rules.specs.Views.{closed, partCompacted};
-ghost use Rattle.columns.specs.Step.{Steps};
+ghost use Rattle.rules.specs.Leaves.{Steps};
 ghost use Rattle.in_progress.specs.Part.{Part, ViewPart, AnyPart, RoomInOpen, Walks, Listable, Decided, firstRows, rowsBehind, longOf, compacting, openedFor, walkedOn, copiedBy, Attaches, AttachesPart, RaisesPart};
 use byte_view::Copying;
 use byte_view::Source;
-use columns::Step;
 use counts::BufferNumber;
 use counts::ByteSum;
 use primitive::Rows;
 use rules::ColumnRecord;
+use rules::Step;
 use rules::Way;
 use state::BatchCoalescer;
 use state::OpenBlock;
@@ -42,7 +42,7 @@ fn copy_strings(
         ≡ ok (world s (now (slots .exit)) (now (pool .exit)) (now (books .exit))) ⌝ }
 {
     let block = books::entry_at(books, k.0 as usize);
-    let index = ranges::list_length(s, books, s.place, p.column);
+    let index = slot_counts::list_length(s, books, s.place, p.column);
     let j = Copying {
         from: (r.values as usize) + (p.from as usize) * 16,
         list: r.list as usize,
@@ -51,7 +51,7 @@ fn copy_strings(
         index,
         start: block.start,
     };
-    let filled = byte_view::append_views_and_copy_strings(
+    let filled = byte_view::append_views_and_copy_strings_inner(
         slots,
         pool,
         books,
@@ -196,7 +196,7 @@ fn walk_on(
 }
 
 // A part compacted: into a new block, into the open one, or into both.
-fn compact(
+fn append_views_and_copy_strings(
     s: BatchCoalescer,
     slots: &mut [u8],
     pool: &mut [u8],
@@ -260,14 +260,14 @@ pub fn append_list(
     requires { ⌜ (Listable s (now slots) (now books) (batch rows (now records) (now body)) c) × (r ≡ recordOf (batch rows (now records) (now body)) c) ⌝ }
     ensures { λ _. ⌜ Attaches s (now (slots .entry)) (now (books .entry)) (batch rows (now (records .entry)) (now (body .entry))) c (now (slots .exit)) (now (books .exit)) ⌝ }
 {
-    let n = ranges::list_length(s, books, s.place, c);
+    let n = slot_counts::list_length(s, books, s.place, c);
     let place = layout::list_place(s, s.place, c);
     let from = r.list as usize;
     let size = 4 * (r.count as usize);
     let end = from + size;
     words::put_part(slots, place + 4 * (n as usize), body, from, size);
     listings::list_all(books, s.numbers, &body[from..end], r.count as usize);
-    columns::put_list_length(s, books, c, n + r.count);
+    slot_counts::put_list_length(s, books, c, n + r.count);
 }
 
 // The list of a part's column behind k numbers, and the part's views with k added to their index.
@@ -381,7 +381,7 @@ pub fn copy_rows(
         Way::Attached => attach(s, slots, books, records, body, rows, r, p),
         Way::Compacted => {
             let ideal = source.ideal;
-            compact(s, slots, pool, books, records, body, rows, r, p, ideal)
+            append_views_and_copy_strings(s, slots, pool, books, records, body, rows, r, p, ideal)
         }
     }
 }

@@ -11,8 +11,8 @@ use Rattle.rules.specs.Views.{closed, opening, blockOpened}
 use Rattle.state.specs.declared.BatchCoalescer.{BatchCoalescer}
 use Rattle.state.specs.World.{world, columnOf}
 use Rattle.state.specs.Layout.{isViews, slotsLength}
-use Rattle.columns.specs.declared.Step.{Step}
-use Rattle.columns.specs.Step.{Steps}
+use Rattle.rules.specs.declared.Step.{Step}
+use Rattle.rules.specs.Leaves.{Steps}
 use Rattle.push_safety.specs.Run.{Run}
 
 -- ---- what is asked

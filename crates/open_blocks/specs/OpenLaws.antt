@@ -28,8 +28,8 @@ use Rattle.rules.specs.Steps.{ok, refuse, withColumn, counting, listing}
 use Rattle.rules.specs.Views.{blockNumber, openNumber, closed, opening, blockOpened}
 use Rattle.rules.specs.Held.{among-not}
 use Rattle.rules.specs.PartLaws.{chosen-among}
-use Rattle.columns.specs.declared.Step.{Step}
-use Rattle.columns.specs.Step.{steps-done, steps-refused}
+use Rattle.rules.specs.declared.Step.{Step}
+use Rattle.rules.specs.Leaves.{steps-done, steps-refused}
 use Rattle.columns.specs.SourceLaws.{list-same}
 use Rattle.open_blocks.specs.Open.{ClosesBlock, OpensNext, OpensBlock}
 

@@ -12,10 +12,10 @@ ghost use Rattle.state.specs.World.{world};
 ghost use Rattle.state.specs.Layout.{isViews, listPlace, listLength, slotsLength, booksLength, tally};
 ghost use Rattle.layout.specs.Few.{Few};
 ghost use Rattle.open_blocks.specs.Open.{Booked, FillingViews, ClosesBlock, OpensNext, OpensBlock};
-use columns::Step;
 use counts::BufferNumber;
 use counts::ByteSum;
 use room::Chosen;
+use rules::Step;
 use state::BatchCoalescer;
 use state::OpenBlock;
 
@@ -26,10 +26,10 @@ fn list_number(s: BatchCoalescer, slots: &mut [u8], books: &mut [u8], c: u32, nu
     ensures { λ _. ⌜ (now (slots .exit) ≡ withWord32 (now (slots .entry)) (listPlace s (s .place) c + 4 * listLength (world s [] [] (now (books .entry))) (s .place) c) (number .0))
         × (now (books .exit) ≡ withTally (now (books .entry)) (tally s (s .place) (c + 1)) (listLength (world s [] [] (now (books .entry))) (s .place) c + 1)) ⌝ }
 {
-    let n = ranges::list_length(s, books, s.place, c);
+    let n = slot_counts::list_length(s, books, s.place, c);
     let place = layout::list_place(s, s.place, c);
     words::put32(slots, place + 4 * (n as usize), number.0);
-    columns::put_list_length(s, books, c, n + 1);
+    slot_counts::put_list_length(s, books, c, n + 1);
 }
 
 // finish_current: the open block joins its list, if there is one.
@@ -81,7 +81,7 @@ pub fn next_buffer(s: BatchCoalescer, books: &mut [u8], c: u32, min: ByteSum) ->
     requires { ⌜ (Booked s (now books)) × (c < s .columns) × (isViews s c ≡ true) ⌝ }
     ensures { λ r. ⌜ OpensBlock s (now (books .entry)) c (min .0) r (now (books .exit)) ⌝ }
 {
-    let n = ranges::list_length(s, books, s.place, c);
+    let n = slot_counts::list_length(s, books, s.place, c);
     if n < s.lists {
         open_next(s, books, c, min)
     } else {

@@ -34,7 +34,7 @@ pub fn copy_validity(
     let end = begin + size;
     let at = p.at as usize;
     let n = p.count as usize;
-    if r.validity == checks::NO_VALIDITY {
+    if r.validity == records::NO_VALIDITY {
         bits::append_ones(&mut slots[begin..end], at, n);
         return;
     }

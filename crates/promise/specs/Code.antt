@@ -7,7 +7,7 @@ use Rattle.pool.specs.declared.Registered.{Registered}
 use Rattle.state.specs.declared.BatchCoalescer.{BatchCoalescer}
 use Rattle.state.specs.declared.Limit.{Limit}
 use Rattle.state.specs.World.{World, world}
-use Rattle.columns.specs.declared.Step.{Step}
+use Rattle.rules.specs.declared.Step.{Step}
 use Rattle.rules.specs.Batch.{Batch, batchRows}
 use Rattle.rules.specs.Steps.{withLimit}
 use Rattle.rules.specs.Calls.{finishCall, dropCall, registerCall, letGoCall}

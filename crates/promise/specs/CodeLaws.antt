@@ -7,7 +7,7 @@ use lib.ListN.{length}
 use Rattle.state.specs.declared.BatchCoalescer.{BatchCoalescer}
 use Rattle.state.specs.World.{World, world}
 use Rattle.state.specs.Rows.{joined, queuedRows, bufferedRows}
-use Rattle.columns.specs.declared.Step.{Step}
+use Rattle.rules.specs.declared.Step.{Step}
 use Rattle.rules.specs.Batch.{batchRows}
 use Rattle.rules.specs.Ranges.{tested}
 use Rattle.rules.specs.Calls.{Answered, Wanted, setUpCall, dropCall, registerCall}

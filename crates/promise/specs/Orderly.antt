@@ -4,7 +4,7 @@ use mathlib.Core.Path.{_≡_}
 use mathlib.Core.List.{List}
 use Rattle.state.specs.declared.BatchCoalescer.{BatchCoalescer}
 use Rattle.state.specs.World.{World}
-use Rattle.columns.specs.declared.Step.{Step}
+use Rattle.rules.specs.declared.Step.{Step}
 use Rattle.rules.specs.Batch.{Batch}
 use Rattle.rules.specs.Calls.{Wanted, setUpCall, pushCall}
 use Rattle.trial_truth.specs.Like.{ColumnOpens}

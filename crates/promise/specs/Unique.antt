@@ -5,7 +5,7 @@ use mathlib.Core.Logic.{_≢_}
 use mathlib.Core.List.{List}
 use Rattle.pool.specs.declared.Registered.{Registered}
 use Rattle.state.specs.World.{World}
-use Rattle.columns.specs.declared.Step.{Step}
+use Rattle.rules.specs.declared.Step.{Step}
 use Rattle.rules.specs.Batch.{Batch}
 use Rattle.rules.specs.Calls.{Answered, RegisterAnswer}
 use Rattle.rules.specs.Calls as calls

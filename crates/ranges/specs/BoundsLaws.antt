@@ -55,42 +55,25 @@ module _ (s : BatchCoalescer) where
   unfolding kindsKnown known
   known-done c a l = all-done (s .columns) a l
 
--- in_bounds
-module _ (s : BatchCoalescer) {a : Bool} (p : a ≡ between 1 (s .target .0) 65536) where
-  pub bounds-target : a ≡ false → false ≡ inBounds s
+-- in_bounds: its tests together, and columns over 16. Every word of the machine is a pool's length
+module _ (s : BatchCoalescer) where
+  pub bounds-are : {a b c k l n : Bool} → s .columns ≤ 16 → s .pool .0 < 2 ^ 32 → a ≡ between 1 (s .target .0) 65536 → b ≡ between (s .target .0) (s .rows .0) 65536 → c ≡ between 1 (s .queue) 1024 → k ≡ kindsKnown s → l ≡ between 1 (s .lists) 1024 → n ≡ between 1 (s .numbers) 65536 → (a && (b && (c && (k && (l && n))))) ≡ inBounds s
+  unfolding inBounds kindsKnown
+  bounds-are {a} {b} {c} {k} {l} {n} h m p q r x y z =
+      rw (← p, ← q, ← r, ← x, ← y, ← z, le-leb (s .columns) 16 h, le-leb (s .pool .0) 4294967295 (omega arith))
+      (ap (λ (g : Bool). a && (b && (c && (k && (l && g))))) (and-true n))
+
+  pub bounds-columns : 16 < s .columns → false ≡ inBounds s
   unfolding inBounds
-  bounds-target x = rw (← p, x)
-
-  module _ (x : a ≡ true) {b : Bool} (q : b ≡ between (s .target .0) (s .rows .0) 65536) where
-    pub bounds-rows : b ≡ false → false ≡ inBounds s
-    unfolding inBounds
-    bounds-rows y = rw (← p, x, ← q, y)
-
-    module _ (y : b ≡ true) {c : Bool} (r : c ≡ between 1 (s .queue) 1024) where
-      pub bounds-queue : c ≡ false → false ≡ inBounds s
-      unfolding inBounds
-      bounds-queue z = rw (← p, x, ← q, y, ← r, z)
-
-      pub bounds-columns : c ≡ true → 16 < s .columns → false ≡ inBounds s
-      unfolding inBounds
-      bounds-columns z h = rw (← p, x, ← q, y, ← r, z, lt-leb (s .columns) 16 h)
-
-      module _ (z : c ≡ true) (h : s .columns ≤ 16) {e : Bool} (k : e ≡ kindsKnown s) where
-        pub bounds-kinds : e ≡ false → false ≡ inBounds s
-        unfolding inBounds kindsKnown
-        bounds-kinds u = rw (← p, x, ← q, y, ← r, z, le-leb (s .columns) 16 h, ← k, u)
-
-        module _ (u : e ≡ true) {f : Bool} (l : f ≡ between 1 (s .lists) 1024) where
-          pub bounds-lists : f ≡ false → false ≡ inBounds s
-          unfolding inBounds kindsKnown
-          bounds-lists v = rw (← p, x, ← q, y, ← r, z, le-leb (s .columns) 16 h, ← k, u, ← l, v)
-
-          -- every word of the machine is a pool's length
-          pub bounds-last : {g : Bool} → f ≡ true → g ≡ between 1 (s .numbers) 65536 → s .pool .0 < 2 ^ 32 → g ≡ inBounds s
-          unfolding inBounds kindsKnown
-          bounds-last {g} v m n =
-              rw (← p, x, ← q, y, ← r, z, le-leb (s .columns) 16 h, ← k, u, ← l, v, ← m, le-leb (s .pool .0) 4294967295 (omega arith))
-              (and-true g)
+  bounds-columns h =
+      rw (lt-leb (s .columns) 16 h)
+      (none (between 1 (s .target .0) 65536) (between (s .target .0) (s .rows .0) 65536) (between 1 (s .queue) 1024))
+    where
+      none : (a b c : Bool) → false ≡ (a && (b && (c && false)))
+      none false b c = refl
+      none true false c = refl
+      none true true false = refl
+      none true true true = refl
 
 -- what bounds say
 pub record Bounded (s : BatchCoalescer) : Type 0 where

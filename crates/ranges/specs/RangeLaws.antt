@@ -25,21 +25,7 @@ use Rattle.layout.specs.PlaceLaws.{list-room}
 use Rattle.rules.specs.Ranges.{between, blockInRange, columnInRange, listInRange, slotInRange, stateInRange, tested}
 use Rattle.ranges.specs.Tested.{fitsLengths, below}
 
--- counts lie in the books
-module _ (s : BatchCoalescer) (slot : ℕ) {L : ℕ} where
-  tally-room : (k : ℕ) → slot ≤ s .queue → k ≤ s .columns → L ≡ booksLength s → tallyPlace (tally s slot k) + 4 ≤ L
-  unfolding booksLength tallyPlace
-  tally-room k h l e =
-      let p : (1 + s .columns) * (slot + 1) ≤ (1 + s .columns) * (s .queue + 1) = mul-le-mul-left (1 + s .columns) (omega arith) in
-      omega arith
-
-  pub rows-room : slot ≤ s .queue → L ≡ booksLength s → tallyPlace (tally s slot 0) + 4 ≤ L
-  rows-room h e = tally-room 0 h (omega arith) e
-
-  pub length-room : (c : ℕ) → slot ≤ s .queue → c < s .columns → L ≡ booksLength s → tallyPlace (tally s slot (c + 1)) + 4 ≤ L
-  length-room c h l e = tally-room (c + 1) h (omega arith) e
-
--- the entries do, and the word before them
+-- the entries lie in the books, and the word before them
 module _ (s : BatchCoalescer) {L : ℕ} (e : L ≡ booksLength s) where
   pub entries-room : 4 + 20 * s .numbers ≤ L
   unfolding booksLength
@@ -47,15 +33,6 @@ module _ (s : BatchCoalescer) {L : ℕ} (e : L ≡ booksLength s) where
 
   pub used-room : 0 + 4 ≤ L
   used-room = omega (arith, entries-room)
-
--- list_length and rows_in
-pub length-is : (s : BatchCoalescer) (books : List ℕ) (slot c : ℕ) {r : ℕ} → r ≡ tallyOf books (tally s slot (c + 1)) → r ≡ listLength (world s [] [] books) slot c
-unfolding listLength
-length-is s books slot c e = e
-
-pub rows-is : (s : BatchCoalescer) (books : List ℕ) (slot : ℕ) {r : ℕ} → r ≡ tallyOf books (tally s slot 0) → r ≡ rowsIn (world s [] [] books) slot
-unfolding rowsIn
-rows-is s books slot e = e
 
 -- block_in_range
 module _ (used list room : ℕ) {b : OpenBlock} where

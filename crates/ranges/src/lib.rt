@@ -13,7 +13,6 @@ use kinds::Width;
 use state::BatchCoalescer;
 use state::Column;
 use state::OpenBlock;
-use tallies::Tally;
 
 // Whether every column is of a kind in the table.
 fn kinds_known(s: BatchCoalescer) -> bool
@@ -44,28 +43,12 @@ fn between(low: u32, x: u32, high: u32) -> bool
 pub fn in_bounds(s: BatchCoalescer) -> bool
     ensures { λ r. ⌜ r ≡ inBounds s ⌝ }
 {
-    if between(1, s.target.0, 65536) {
-        if between(s.target.0, s.rows.0, 65536) {
-            if between(1, s.queue, 1024) {
-                if s.columns <= 16 {
-                    if kinds_known(s) {
-                        if between(1, s.lists, 1024) {
-                            between(1, s.numbers, 65536)
-                        } else {
-                            false
-                        }
-                    } else {
-                        false
-                    }
-                } else {
-                    false
-                }
-            } else {
-                false
-            }
-        } else {
-            false
-        }
+    if s.columns <= 16 {
+        between(1, s.target.0, 65536)
+            & (between(s.target.0, s.rows.0, 65536)
+                & (between(1, s.queue, 1024)
+                    & (kinds_known(s)
+                        & (between(1, s.lists, 1024) & between(1, s.numbers, 65536)))))
     } else {
         false
     }
@@ -90,33 +73,6 @@ pub fn fits_set_up(s: BatchCoalescer, slots: usize, pool: usize, books: usize) -
     }
 }
 
-// The length of the list of column c of a slot, or the rows of a slot, as the books have them.
-pub fn list_length(s: BatchCoalescer, books: &[u8], slot: u32, c: u32) -> u32
-    requires { ⌜ (Few s) × (slot ≤ s .queue) × (c < s .columns) × (length (now books) ≡ booksLength s) ⌝ }
-    ensures { λ r. ⌜ r ≡ Rattle.state.specs.Layout.listLength (world s [] [] (now (books .entry))) slot c ⌝ }
-{
-    let t = Tally {
-        numbers: s.numbers,
-        columns: s.columns,
-        slot,
-        word: c + 1,
-    };
-    tallies::tally_at(books, t)
-}
-
-pub fn rows_in(s: BatchCoalescer, books: &[u8], slot: u32) -> u32
-    requires { ⌜ (Few s) × (slot ≤ s .queue) × (length (now books) ≡ booksLength s) ⌝ }
-    ensures { λ r. ⌜ r ≡ Rattle.state.specs.Layout.rowsIn (world s [] [] (now (books .entry))) slot ⌝ }
-{
-    let t = Tally {
-        numbers: s.numbers,
-        columns: s.columns,
-        slot,
-        word: 0,
-    };
-    tallies::tally_at(books, t)
-}
-
 // 14, an open block: its number is in use, and its list has a place for it.
 fn block_in_range(used: u32, list: u32, room: u32, block: OpenBlock) -> bool
     ensures { λ r. ⌜ r ≡ blockInRange used list room block ⌝ }
@@ -135,7 +91,7 @@ fn column_in_range(s: BatchCoalescer, books: &[u8], c: u32, column: Column) -> b
     if kinds::is_view(column.kind) {
         if between(4096, column.source.current.0, 1048576) {
             let used = words::get32(books, 0);
-            let list = list_length(s, books, s.place, c);
+            let list = slot_counts::list_length(s, books, s.place, c);
             let block = column.block;
             block_in_range(used, list, s.lists, block)
         } else {
@@ -184,7 +140,7 @@ fn list_in_range(s: BatchCoalescer, slots: &[u8], books: &[u8], slot: u32, c: u3
     requires { ⌜ (Sized s (length (now slots)) (length (now books))) × (slot ≤ s .queue) × (c < s .columns) ⌝ }
     ensures { λ r. ⌜ r ≡ listInRange (world s (now (slots .entry)) [] (now (books .entry))) slot c ⌝ }
 {
-    let count = list_length(s, books, slot, c);
+    let count = slot_counts::list_length(s, books, slot, c);
     if count == 0 {
         return true;
     }
@@ -204,7 +160,7 @@ fn slot_in_range(s: BatchCoalescer, slots: &[u8], books: &[u8], slot: u32) -> bo
     requires { ⌜ (Sized s (length (now slots)) (length (now books))) × (slot ≤ s .queue) ⌝ }
     ensures { λ r. ⌜ r ≡ slotInRange (world s (now (slots .entry)) [] (now (books .entry))) slot ⌝ }
 {
-    if s.rows.0 < rows_in(s, books, slot) {
+    if s.rows.0 < slot_counts::rows_in(s, books, slot) {
         return false;
     }
     let mut c: u32 = 0;

@@ -107,7 +107,7 @@ fn view_answer(
     if v.length <= views::MAX_INLINE_VIEW_LEN {
         return RowAnswer::Value(Place::InRow((at as u64) + 4, ByteCount(v.length)));
     }
-    if v.index < ranges::list_length(s, books, slot, c) {
+    if v.index < slot_counts::list_length(s, books, slot, c) {
         let k = words::get32(
             slots,
             layout::list_place(s, slot, c) + 4 * (v.index as usize),
@@ -164,7 +164,7 @@ fn front_row(s: BatchCoalescer, slots: &[u8], books: &[u8], c: u32, i: u32) -> R
         return RowAnswer::Refused(13);
     }
     let slot = layout::front_slot(s);
-    if i < ranges::rows_in(s, books, slot) {
+    if i < slot_counts::rows_in(s, books, slot) {
         row_answer(s, slots, books, slot, c, i)
     } else {
         RowAnswer::Refused(13)

@@ -21,11 +21,6 @@ use Rattle.rules.specs.StepLaws.{stepped-small, stepped-whole, stepped-finishes
 use Rattle.routes.specs.declared.Route.{Route}
 use Rattle.routes.specs.Route.{routeOf, wholeRefusal}
 
--- ---- next_to_fill
-
-pub next-is : (s : BatchCoalescer) {p : ℕ} → p ≡ nextSlot s (s .place) → withCounts s p (s .queued + 1) 0 ≡ withCounts s (nextSlot s (s .place)) (s .queued + 1) 0
-next-is s e = ap (λ (p : ℕ). withCounts s p (s .queued + 1) 0) e
-
 -- ---- is_over
 
 pub over-some : {limit : Limit} {most : RowCount} (rows : ℕ) → limit ≡ Limit.Rows most → ltb (most .0) rows ≡ overLimit limit rows

@@ -70,8 +70,8 @@ pub fn try_whole(s: BatchCoalescer, books: &[u8], records: &[u8]) -> u32
     }
     let mut c: u32 = 0;
     while c < s.columns {
-        let n = ranges::list_length(s, books, s.place, c);
-        let count = checks::record_at(records, c).count;
+        let n = slot_counts::list_length(s, books, s.place, c);
+        let count = records::record_at(records, c).count;
         if (s.lists as u64) < (n as u64) + (count as u64) {
             return 10;
         }
@@ -113,18 +113,4 @@ pub fn route_of(s: BatchCoalescer, rows: u32) -> Route
     } else {
         Route::Coalesce
     }
-}
-
-// The state with the next slot to fill.
-pub fn next_to_fill(s: BatchCoalescer) -> BatchCoalescer
-    requires { ⌜ (Few s) × (s .place ≤ s .queue) × (s .queued < s .queue) ⌝ }
-    ensures { λ r. ⌜ r ≡ withCounts s (nextSlot s (s .place)) (s .queued + 1) 0 ⌝ }
-{
-    let place = layout::next_slot(s, s.place);
-    let none = RowCount(0);
-    let mut t = s;
-    t.place = place;
-    t.queued = s.queued + 1;
-    t.buffered = none;
-    t
 }

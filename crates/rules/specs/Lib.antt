@@ -4,6 +4,7 @@ pub mod Checks
 pub mod Ranges
 pub mod Copies
 pub mod Steps
+pub mod Leaves
 pub mod Views
 pub mod Push
 pub mod Calls

@@ -1,5 +1,6 @@
 // Document 01 whole, as definitions in specs/, which the coalescer's functions are proved equal to; and the types that they share
 // with the code. From arrow-select 60.0.0, src/coalesce/byte_view.rs: what `Source` decides.
+use state::BatchCoalescer;
 
 // 01: "column records of 32 bytes with no header, eight little-endian u32 words".
 pub struct ColumnRecord {
@@ -25,4 +26,10 @@ pub struct Fault {
     pub number: u32,
     pub column: u32,
     pub row: u32,
+}
+
+// What a step leaves: the state, and the number of its refusal, or 0.
+pub struct Step {
+    pub state: BatchCoalescer,
+    pub number: u32,
 }

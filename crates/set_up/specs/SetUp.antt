@@ -5,7 +5,7 @@ use mathlib.Core.Bool.{cond}
 use mathlib.Core.List.{List, [], _∷_}
 use lib.ListN.{getD, set}
 use lib.Dec.{ltb}
-use Rattle.columns.specs.declared.Step.{Step}
+use Rattle.rules.specs.declared.Step.{Step}
 use Rattle.state.specs.declared.Column.{Column}
 use Rattle.rules.specs.Calls.{Answered, ofKind}
 use Rattle.rules.specs.Calls as calls

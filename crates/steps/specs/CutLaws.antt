@@ -16,8 +16,8 @@ use Rattle.push_safety.specs.CallerLaws.{run-bounds}
 use Rattle.push_safety.specs.Firm.{goes-refl, goes-trans}
 use Rattle.push_safety.specs.PartGoes.{taken-goes}
 use Rattle.push_safety.specs.FinishGoes.{rows-small, finished-goes}
-use Rattle.columns.specs.declared.Step.{Step}
-use Rattle.columns.specs.Step.{Steps}
+use Rattle.rules.specs.declared.Step.{Step}
+use Rattle.rules.specs.Leaves.{Steps}
 use Rattle.routes.specs.declared.Sources.{Sources}
 use Rattle.steps.specs.Taking.{Taking, TakesThen, Cutting}
 

@@ -26,9 +26,9 @@ use Rattle.push_safety.specs.Run.{Run}
 use Rattle.push_safety.specs.CallerLaws.{record-room}
 use Rattle.push_safety.specs.Along.{Along, along-refl, along-trans, along-in}
 use Rattle.push_safety.specs.PartGoes.{column-goes, taken-goes}
-use Rattle.columns.specs.declared.Step.{Step}
+use Rattle.rules.specs.declared.Step.{Step}
 use Rattle.columns.specs.Column.{sourceFor}
-use Rattle.columns.specs.Step.{Steps, steps-done, steps-next, steps-stop}
+use Rattle.rules.specs.Leaves.{Steps, steps-done, steps-next, steps-stop}
 use Rattle.columns.specs.SourceLaws.{run-few}
 use Rattle.routes.specs.declared.Sources.{Sources}
 use Rattle.routes.specs.Sourced.{noSource, Sourced}

@@ -27,8 +27,8 @@ use Rattle.push_safety.specs.BooksGo.{go-refl}
 use Rattle.push_safety.specs.Firm.{Firm, FirmGoes, run-firm, firm-refl, firm-trans, reads-go}
 use Rattle.push_safety.specs.AttachGoes.{attached-firm, attached-other}
 use Rattle.push_safety.specs.FinishGoes.{rows-small, finished-goes}
-use Rattle.columns.specs.declared.Step.{Step}
-use Rattle.columns.specs.Step.{Steps, steps-done, steps-refused, steps-next, steps-stop}
+use Rattle.rules.specs.declared.Step.{Step}
+use Rattle.rules.specs.Leaves.{Steps, steps-done, steps-refused, steps-next, steps-stop}
 use Rattle.columns.specs.Pushing.{Pushing}
 use Rattle.columns.specs.SourceLaws.{list-same, source-same}
 use Rattle.routes.specs.declared.Route.{Route}

@@ -13,8 +13,8 @@ use Rattle.rules.specs.Push.{finished, columnWhole, queuedWhole, partTaken}
 use Rattle.rules.specs.Stays.{SameSetUp}
 use Rattle.push_safety.specs.Run.{Run, Readable}
 use Rattle.push_safety.specs.Firm.{Firm}
-use Rattle.columns.specs.declared.Step.{Step}
-use Rattle.columns.specs.Step.{Steps}
+use Rattle.rules.specs.declared.Step.{Step}
+use Rattle.rules.specs.Leaves.{Steps}
 use Rattle.routes.specs.declared.Sources.{Sources}
 use Rattle.routes.specs.Sourced.{Sourced}
 use Rattle.open_blocks.specs.Open.{Booked}

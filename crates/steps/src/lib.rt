@@ -12,17 +12,17 @@ ghost use Rattle.rules.specs.declared.Way.{Way};
 ghost use Rattle.rules.specs.Steps.{ok};
 ghost use Rattle.rules.specs.Push.{finished, ifFull, coalesced, stepped};
 ghost use Rattle.columns.specs.Pushing.{Pushing};
-ghost use Rattle.columns.specs.Step.{Steps};
+ghost use Rattle.rules.specs.Leaves.{Steps};
 ghost use Rattle.routes.specs.Sourced.{Sourced};
 ghost use Rattle.in_progress.specs.Part.{Part, Decided, copiedBy};
 ghost use Rattle.steps.specs.Taking.{Taking, Takes, TakesThen, Cutting, Rowed, LaysRows, Columned, LaysColumn, Wholly, LaysColumns, Asks, QueuesWhole, QueuesFirst};
 use byte_view::Source;
-use columns::Step;
 use counts::RowCount;
 use primitive::Rows;
 use routes::Route;
 use routes::Sources;
 use rules::ColumnRecord;
+use rules::Step;
 use rules::Way;
 use state::BatchCoalescer;
 
@@ -53,7 +53,7 @@ fn copy_column(
     ensures { λ q. ⌜ Steps (copiedBy (world s (now (slots .entry)) (now (pool .entry)) (now (books .entry))) (batch rows (now (records .entry)) (now (body .entry))) p (source .way))
         q (now (slots .exit)) (now (pool .exit)) (now (books .exit)) ⌝ }
 {
-    let r = checks::record_at(records, p.column);
+    let r = records::record_at(records, p.column);
     in_progress::copy_rows(s, slots, pool, books, records, body, rows, r, source, p)
 }
 
@@ -74,7 +74,7 @@ fn copy_as_is(
     ensures { λ _. ⌜ copiedBy (world s (now (slots .entry)) (now (pool .entry)) (now (books .entry))) (batch rows (now (records .entry)) (now (body .entry))) p Way.Copied
         ≡ ok (world s (now (slots .exit)) (now (pool .entry)) (now (books .entry))) ⌝ }
 {
-    let r = checks::record_at(records, p.column);
+    let r = records::record_at(records, p.column);
     let width = layout::width_in(kind);
     in_progress::copy_plain(s, slots, pool, books, records, body, rows, r, width, p);
 }
@@ -269,7 +269,7 @@ fn copy_whole(
     requires { ⌜ Columned s (now slots) (now books) (batch rows (now records) (now body)) c place ⌝ }
     ensures { λ _. ⌜ LaysColumn s (now (slots .entry)) (now (books .entry)) (batch rows (now (records .entry)) (now (body .entry))) c (now (slots .exit)) (now (books .exit)) ⌝ }
 {
-    let r = checks::record_at(records, c);
+    let r = records::record_at(records, c);
     lay_rows(s, slots, records, body, rows, r, c, place);
     in_progress::append_list(s, slots, books, records, body, rows, r, c);
 }

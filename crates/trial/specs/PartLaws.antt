@@ -15,8 +15,8 @@ use Rattle.rules.specs.Steps.{withCounts}
 use Rattle.rules.specs.Stays.{SameSetUp, same-counts}
 use Rattle.rules.specs.SameLaws.{same-views}
 use Rattle.byte_view.specs.declared.Source.{Source}
-use Rattle.columns.specs.declared.Step.{Step}
-use Rattle.columns.specs.ExitLaws.{record-same}
+use Rattle.rules.specs.declared.Step.{Step}
+use Rattle.records.specs.RecordLaws.{record-same}
 use Rattle.push_safety.specs.StepGoes.{buffering-goes}
 use Rattle.routes.specs.declared.Sources.{Sources}
 use Rattle.routes.specs.Sourced.{noSource}

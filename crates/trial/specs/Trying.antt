@@ -15,7 +15,7 @@ use Rattle.rules.specs.declared.ColumnRecord.{ColumnRecord}
 use Rattle.rules.specs.declared.Way.{Way}
 use Rattle.rules.specs.Batch.{Batch, recordOf}
 use Rattle.rules.specs.Stays.{SameSetUp}
-use Rattle.columns.specs.declared.Step.{Step}
+use Rattle.rules.specs.declared.Step.{Step}
 use Rattle.push_safety.specs.Run.{Run}
 use Rattle.routes.specs.declared.Sources.{Sources}
 use Rattle.routes.specs.Sourced.{noSource}

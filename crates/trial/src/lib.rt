@@ -16,13 +16,13 @@ ghost use Rattle.trial_truth.specs.Tells.{closedAt, closedTo, TellsPart, TellsF
 ghost use Rattle.trial.specs.Trial.{Restored, Answers};
 ghost use Rattle.trial.specs.Trying.{Unmarked, Trying, Marks, Tries, TriesColumn, TriesPart, TriesFull, TriesFinish, ClosesFirst, Triable, Compactable};
 use byte_view::Source;
-use columns::Step;
 use counts::ByteSum;
 use counts::RowCount;
 use room::Chosen;
 use routes::Route;
 use routes::Sources;
 use rules::ColumnRecord;
+use rules::Step;
 use rules::Way;
 use state::BatchCoalescer;
 use state::OpenBlock;
@@ -167,7 +167,7 @@ fn try_part(
         let at = c as usize;
         let source = sources.column[at];
         let here = c;
-        let r = checks::record_at(records, here);
+        let r = records::record_at(records, here);
         c += 1;
         let way = source.way;
         match way {
@@ -235,7 +235,7 @@ fn try_finish(s: BatchCoalescer) -> Step
     } else {
         if s.queued < s.queue {
             let t = close_all(s);
-            let u = routes::next_to_fill(t);
+            let u = slot_counts::next_to_fill(t);
             Step {
                 state: u,
                 number: 0,

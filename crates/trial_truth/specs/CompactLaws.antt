@@ -18,7 +18,7 @@ use Rattle.rules.specs.Batch.{Batch, ideal}
 use Rattle.rules.specs.Steps.{bind, withColumn}
 use Rattle.rules.specs.Views.{filling, hasBlock, blockNumber, isOpen, openNumber, openFilled, openRest, closed, blockOpened, longBefore, viewsCompacted, walked, partCompacted}
 use Rattle.rules.specs.SameLaws.{same-long-before}
-use Rattle.columns.specs.declared.Step.{Step}
+use Rattle.rules.specs.declared.Step.{Step}
 use Rattle.columns.specs.Column.{closedLength}
 use Rattle.columns.specs.SourceLaws.{closed-length}
 use Rattle.push_safety.specs.SumLaws.{before-more, part-ideal, walked-most, walked-rest}

@@ -12,7 +12,7 @@ use Rattle.rules.specs.Steps.{Res, bind}
 use Rattle.rules.specs.Push.{finished, partTaken, space, ifFull, coalesced}
 use Rattle.rules.specs.Stays.{SameSetUp, same-trans}
 use Rattle.rules.specs.StepLaws.{full-finishes, full-not, coalesced-turn, coalesced-last}
-use Rattle.columns.specs.declared.Step.{Step}
+use Rattle.rules.specs.declared.Step.{Step}
 use Rattle.routes.specs.declared.Sources.{Sources}
 use Rattle.trial_truth.specs.Like.{numberOf, Follows}
 use Rattle.trial_truth.specs.Tells.{BeginsSlot, TellsPart, TellsFinished, TellsFull, TellsLast, CutsTo, TellsCut, TellsRows}

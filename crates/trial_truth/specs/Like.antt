@@ -21,7 +21,7 @@ use Rattle.rules.specs.Views.{partAttached, partCompacted, byWay}
 use Rattle.byte_view.specs.declared.Source.{Source}
 use Rattle.rules.specs.Steps.{Res, ok, refuse, withColumn}
 use Rattle.rules.specs.Stays.{SameSetUp}
-use Rattle.columns.specs.declared.Step.{Step}
+use Rattle.rules.specs.declared.Step.{Step}
 use Rattle.push_safety.specs.Run.{Run, Readable}
 use Rattle.push_safety.specs.Along.{Along}
 use Rattle.trial_truth.specs.Alike.{Alike}

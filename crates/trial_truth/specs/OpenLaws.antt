@@ -36,7 +36,7 @@ use Rattle.rules.specs.Stays.{Beside, same-refl, same-column}
 use Rattle.rules.specs.SameLaws.{same-views, same-long-before}
 use Rattle.rules.specs.PartLaws.{chosen-among, opened-holds}
 use Rattle.rules.specs.StepLaws.{opened-ten}
-use Rattle.columns.specs.declared.Step.{Step}
+use Rattle.rules.specs.declared.Step.{Step}
 use Rattle.push_safety.specs.Firm.{run-firm, same-list-length}
 use Rattle.push_safety.specs.StepGoes.{column-new}
 use Rattle.push_safety.specs.OpenGoes.{Opened, opened-rest}

@@ -20,9 +20,9 @@ use Rattle.rules.specs.Views.{filling, bitsCopied, byWay, columnCopied, partCop
 use Rattle.rules.specs.Push.{partTaken}
 use Rattle.rules.specs.Stays.{SameSetUp, same-trans, same-counts}
 use Rattle.rules.specs.SameLaws.{same-views, same-ideal}
-use Rattle.columns.specs.declared.Step.{Step}
+use Rattle.rules.specs.declared.Step.{Step}
 use Rattle.columns.specs.Column.{sourceFor}
-use Rattle.columns.specs.ExitLaws.{record-same}
+use Rattle.records.specs.RecordLaws.{record-same}
 use Rattle.columns.specs.SourceLaws.{source-way, source-ideal}
 use Rattle.routes.specs.declared.Sources.{Sources}
 use Rattle.routes.specs.Sourced.{noSource}

@@ -19,8 +19,8 @@ use Rattle.rules.specs.Views.{filling}
 use Rattle.rules.specs.Push.{finished, columnsWhole, queuedWhole}
 use Rattle.rules.specs.Stays.{same-refl}
 use Rattle.rules.specs.StepLaws.{finished-none}
-use Rattle.columns.specs.declared.Step.{Step}
-use Rattle.columns.specs.ExitLaws.{record-same}
+use Rattle.rules.specs.declared.Step.{Step}
+use Rattle.records.specs.RecordLaws.{record-same}
 use Rattle.routes.specs.declared.Route.{Route}
 use Rattle.routes.specs.declared.Sources.{Sources}
 use Rattle.routes.specs.Route.{routeOf, wholeRefusal}

@@ -23,7 +23,7 @@ use Rattle.rules.specs.Batch.{Batch, batch, recordOf, valuePlace, ideal}
 use Rattle.rules.specs.Copies.{viewsAt, longTo}
 use Rattle.rules.specs.Steps.{withColumn}
 use Rattle.rules.specs.Views.{filling, longBefore, walked, valuesCopied}
-use Rattle.columns.specs.declared.Step.{Step}
+use Rattle.rules.specs.declared.Step.{Step}
 use Rattle.columns.specs.Column.{closedLength}
 use Rattle.push_safety.specs.StepGoes.{values-goes}
 use Rattle.trial_truth.specs.Like.{Buffers, TellsAttached, TellsCompacted, TellsColumn}

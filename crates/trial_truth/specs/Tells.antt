@@ -13,7 +13,7 @@ use Rattle.rules.specs.Steps.{Res, bind, forEach, withColumn}
 use Rattle.rules.specs.Views.{columnCopied}
 use Rattle.rules.specs.Push.{finished, queuedWhole, partTaken, ifFull, coalesced, stepped}
 use Rattle.rules.specs.Stays.{SameSetUp}
-use Rattle.columns.specs.declared.Step.{Step}
+use Rattle.rules.specs.declared.Step.{Step}
 use Rattle.routes.specs.declared.Sources.{Sources}
 use Rattle.routes.specs.Sourced.{Sourced}
 use Rattle.trial_truth.specs.Like.{numberOf, Like, Reached, Follows}

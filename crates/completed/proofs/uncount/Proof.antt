@@ -5,7 +5,7 @@ use lib.ListN.{length}
 use borrow.Author.Needs.{needs}
 use Rattle.layout.specs.Few.{Few}
 use Rattle.state.specs.Layout.{booksLength}
-use Rattle.completed.specs.DropLaws.{count-room, counts-none, counts-more, counts-all}
+use Rattle.completed.specs.DropLaws.{counts-none, counts-more, counts-all}
 use Rattle.completed.specs.Drop.{countsOff}
 use Rattle.completed.proofs.uncount.Statement.{statement}
 use Rattle.completed.proofs.uncount.Tie as tie
@@ -19,8 +19,8 @@ abbrev μ-loop : tie.MeasureT-loop
 loop-holds : tie.Need-loop-holds Inv-loop μ-loop
 loop-holds c = search (counts-none, needs)
 
-put-tally-requires : tie.Need-put-tally-requires Inv-loop μ-loop
-put-tally-requires c κs = search (count-room, needs)
+put-count-requires : tie.Need-put-count-requires Inv-loop μ-loop
+put-count-requires c κs = search needs
 
 add-k : tie.Need-add-k Inv-loop μ-loop
 add-k c = search needs
@@ -44,7 +44,7 @@ uncount-spec =
     Inv-loop
     μ-loop
     loop-holds
-    put-tally-requires
+    put-count-requires
     add-k
     loop-less
     loop-again

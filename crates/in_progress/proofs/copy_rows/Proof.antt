@@ -40,8 +40,8 @@ attach-requires c κs = rows-any (c .before .before .before .before .before .bef
 enum-told-3 : tie.Need-enum-told-3
 enum-told-3 c = search needs
 
-compact-requires : tie.Need-compact-requires
-compact-requires c κs = (rows-views (c .before .before .before .before .before .before .before .before .before .before .before .before .before .before .before .before .before .before .before .pre .0) (c .before .before .before .before .before .before .before .before .before .before .before .before .before .width-of .ensures .0) (c .before .before .before .before .before .before .before .before .before .before .bitmap-bytes .ensures .0) (c .before .before .before .before .before .before .before .before .copy-validity .ensures) (c .before .before .before .before .before .before .before .before .before .before .before .before .before .before .before .before .before .before .before .pre .1) (search needs), rows-ideal (c .before .before .before .before .before .before .before .before .before .before .before .before .before .before .before .before .before .before .before .pre .0) (c .before .before .before .before .before .before .before .before .before .before .before .before .before .width-of .ensures .0) (c .before .before .before .before .before .before .before .before .before .before .bitmap-bytes .ensures .0) (c .before .before .before .before .before .before .before .before .copy-validity .ensures) (c .before .before .before .before .before .before .before .before .before .before .before .before .before .before .before .before .before .before .before .pre .1) (search needs))
+append-views-and-copy-strings-requires : tie.Need-append-views-and-copy-strings-requires
+append-views-and-copy-strings-requires c κs = (rows-views (c .before .before .before .before .before .before .before .before .before .before .before .before .before .before .before .before .before .before .before .pre .0) (c .before .before .before .before .before .before .before .before .before .before .before .before .before .width-of .ensures .0) (c .before .before .before .before .before .before .before .before .before .before .bitmap-bytes .ensures .0) (c .before .before .before .before .before .before .before .before .copy-validity .ensures) (c .before .before .before .before .before .before .before .before .before .before .before .before .before .before .before .before .before .before .before .pre .1) (search needs), rows-ideal (c .before .before .before .before .before .before .before .before .before .before .before .before .before .before .before .before .before .before .before .pre .0) (c .before .before .before .before .before .before .before .before .before .before .before .before .before .width-of .ensures .0) (c .before .before .before .before .before .before .before .before .before .before .bitmap-bytes .ensures .0) (c .before .before .before .before .before .before .before .before .copy-validity .ensures) (c .before .before .before .before .before .before .before .before .before .before .before .before .before .before .before .before .before .before .before .pre .1) (search needs))
 
 same-length : tie.Need-same-length
 same-length c = search needs
@@ -68,7 +68,7 @@ same-length-6 : tie.Need-same-length-6
 same-length-6 c = search needs
 
 returns-3 : tie.Need-returns-3
-returns-3 c = rows-compacted (c .before .before .before .before .before .before .before .before .before .before .before .before .before .before .before .before .before .before .before .before .before .before .before .before .before .before .pre .0) (c .before .before .before .before .before .before .before .before .before .before .before .before .before .before .before .before .before .before .before .before .width-of .ensures .0) (c .before .before .before .before .before .before .before .before .before .before .before .before .before .before .before .before .before .bitmap-bytes .ensures .0) (c .before .before .before .before .before .before .before .before .before .before .before .before .before .before .before .copy-validity .ensures) (c .before .before .before .before .before .before .before .before .before .before .before .before .before .before .before .before .before .before .before .before .before .before .before .before .before .before .pre .1) (search needs) (c .before .before .before .before .before .before .compact .ensures)
+returns-3 c = rows-compacted (c .before .before .before .before .before .before .before .before .before .before .before .before .before .before .before .before .before .before .before .before .before .before .before .before .before .before .pre .0) (c .before .before .before .before .before .before .before .before .before .before .before .before .before .before .before .before .before .before .before .before .width-of .ensures .0) (c .before .before .before .before .before .before .before .before .before .before .before .before .before .before .before .before .before .bitmap-bytes .ensures .0) (c .before .before .before .before .before .before .before .before .before .before .before .before .before .before .before .copy-validity .ensures) (c .before .before .before .before .before .before .before .before .before .before .before .before .before .before .before .before .before .before .before .before .before .before .before .before .before .before .pre .1) (search needs) (c .before .before .before .before .before .before .append-views-and-copy-strings .ensures)
 
 pub copy-rows-spec : {M : Type 1} → statement M
 copy-rows-spec =
@@ -85,7 +85,7 @@ copy-rows-spec =
     enum-told-2
     attach-requires
     enum-told-3
-    compact-requires
+    append-views-and-copy-strings-requires
     same-length
     returns
     same-length-2

@@ -39,8 +39,8 @@ mul-t25 c = search needs
 add-t26 : tie.Need-add-t26
 add-t26 c = omega (arith, part-place (c .before .before .before .before .before .before .before .before .before .before .before .before .before .before .before .pre .0 .part .part), part-at (c .before .before .before .before .before .before .before .before .before .before .before .before .before .before .before .pre .0 .part .part))
 
-append-views-and-copy-strings-requires : tie.Need-append-views-and-copy-strings-requires
-append-views-and-copy-strings-requires c κs = (strings-spanned _ _ _ _ _ _ _ _ _ _ (c .before .before .before .before .before .before .before .before .before .before .before .before .before .before .before .before .before .before .pre .0) (c .before .before .before .before .before .before .before .before .before .before .before .before .before .before .before .before .before .before .pre .1), strings-carriable _ _ _ _ _ _ _ _ _ _ (c .before .before .before .before .before .before .before .before .before .before .before .before .before .before .before .before .before .before .pre .0) (c .before .before .before .before .before .before .before .before .before .before .before .before .before .before .before .before .before .before .pre .1) (c .before .before .before .before .before .before .before .before .before .before .entry-at .ensures))
+append-views-and-copy-strings-inner-requires : tie.Need-append-views-and-copy-strings-inner-requires
+append-views-and-copy-strings-inner-requires c κs = (strings-spanned _ _ _ _ _ _ _ _ _ _ (c .before .before .before .before .before .before .before .before .before .before .before .before .before .before .before .before .before .before .pre .0) (c .before .before .before .before .before .before .before .before .before .before .before .before .before .before .before .before .before .before .pre .1), strings-carriable _ _ _ _ _ _ _ _ _ _ (c .before .before .before .before .before .before .before .before .before .before .before .before .before .before .before .before .before .before .pre .0) (c .before .before .before .before .before .before .before .before .before .before .before .before .before .before .before .before .before .before .pre .1) (c .before .before .before .before .before .before .before .before .before .before .entry-at .ensures))
 
 put-length-requires : tie.Need-put-length-requires
 put-length-requires c κs = strings-entry _ _ _ _ _ _ _ _ _ _ (c .before .before .before .before .before .before .before .before .before .before .before .before .before .before .before .before .before .before .before .before .before .before .before .before .pre .0) (c .before .before .before .before .before .before .before .before .before .before .before .before .before .before .before .before .before .before .before .before .before .before .before .before .pre .1)
@@ -55,7 +55,7 @@ same-length-3 : tie.Need-same-length-3
 same-length-3 c = search needs
 
 returns : tie.Need-returns
-returns c = strings-done _ _ _ _ _ _ _ _ _ _ (c .before .before .before .before .before .before .before .before .before .before .before .before .before .before .before .before .before .before .before .before .before .before .before .before .before .before .before .pre .0) (c .before .before .before .before .before .before .before .before .before .before .before .before .before .before .before .before .before .before .before .before .before .before .before .before .before .before .before .pre .1) (c .before .before .before .before .before .before .before .before .before .before .before .before .before .before .before .before .before .before .before .entry-at .ensures) (c .before .before .before .before .before .before .before .before .before .before .before .before .before .before .before .before .before .list-length .ensures) (c .before .before .before .before .before .before .before .before .append-views-and-copy-strings .ensures .0) (c .before .before .before .before .before .before .before .before .append-views-and-copy-strings .ensures .1) (c .before .before .before .before .before .before .before .before .append-views-and-copy-strings .ensures .2) (c .before .before .put-length .ensures)
+returns c = strings-done _ _ _ _ _ _ _ _ _ _ (c .before .before .before .before .before .before .before .before .before .before .before .before .before .before .before .before .before .before .before .before .before .before .before .before .before .before .before .pre .0) (c .before .before .before .before .before .before .before .before .before .before .before .before .before .before .before .before .before .before .before .before .before .before .before .before .before .before .before .pre .1) (c .before .before .before .before .before .before .before .before .before .before .before .before .before .before .before .before .before .before .before .entry-at .ensures) (c .before .before .before .before .before .before .before .before .before .before .before .before .before .before .before .before .before .list-length .ensures) (c .before .before .before .before .before .before .before .before .append-views-and-copy-strings-inner .ensures .0) (c .before .before .before .before .before .before .before .before .append-views-and-copy-strings-inner .ensures .1) (c .before .before .before .before .before .before .before .before .append-views-and-copy-strings-inner .ensures .2) (c .before .before .put-length .ensures)
 
 pub copy-strings-spec : {M : Type 1} → statement M
 copy-strings-spec =
@@ -72,7 +72,7 @@ copy-strings-spec =
     cast-t24
     mul-t25
     add-t26
-    append-views-and-copy-strings-requires
+    append-views-and-copy-strings-inner-requires
     put-length-requires
     same-length
     same-length-2

@@ -1,6 +1,6 @@
 -- `ranges::in_bounds` meets its contract.
 use borrow.Author.Needs.{needs}
-use Rattle.ranges.specs.BoundsLaws.{bounds-target, bounds-rows, bounds-queue, bounds-columns, bounds-kinds, bounds-lists, bounds-last}
+use Rattle.ranges.specs.BoundsLaws.{bounds-are, bounds-columns}
 use Rattle.ranges.proofs.in_bounds.Statement.{statement}
 use Rattle.ranges.proofs.in_bounds.Tie as tie
 
@@ -23,25 +23,10 @@ between-requires-5 : tie.Need-between-requires-5
 between-requires-5 c κs = search needs
 
 returns : tie.Need-returns
-returns c = search (bounds-last, needs)
+returns c = search (bounds-are, needs)
 
 returns-2 : tie.Need-returns-2
-returns-2 c = search (bounds-lists, needs)
-
-returns-3 : tie.Need-returns-3
-returns-3 c = search (bounds-kinds, needs)
-
-returns-4 : tie.Need-returns-4
-returns-4 c = search (bounds-columns, needs)
-
-returns-5 : tie.Need-returns-5
-returns-5 c = search (bounds-queue, needs)
-
-returns-6 : tie.Need-returns-6
-returns-6 c = search (bounds-rows, needs)
-
-returns-7 : tie.Need-returns-7
-returns-7 c = search (bounds-target, needs)
+returns-2 c = search (bounds-columns, needs)
 
 pub in-bounds-spec : {M : Type 1} → statement M
 in-bounds-spec =
@@ -54,9 +39,4 @@ in-bounds-spec =
     between-requires-4
     between-requires-5
     returns
-    returns-2
-    returns-3
-    returns-4
-    returns-5
-    returns-6
-    returns-7)
+    returns-2)

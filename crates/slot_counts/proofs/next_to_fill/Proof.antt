@@ -1,8 +1,8 @@
--- `routes::next_to_fill` meets its contract.
+-- `slot_counts::next_to_fill` meets its contract.
 use borrow.Author.Needs.{needs}
-use Rattle.routes.specs.RouteLaws.{next-is}
-use Rattle.routes.proofs.next_to_fill.Statement.{statement}
-use Rattle.routes.proofs.next_to_fill.Tie as tie
+use Rattle.slot_counts.specs.CountLaws.{next-is}
+use Rattle.slot_counts.proofs.next_to_fill.Statement.{statement}
+use Rattle.slot_counts.proofs.next_to_fill.Tie as tie
 
 next-slot-requires : tie.Need-next-slot-requires
 next-slot-requires c κs = search needs

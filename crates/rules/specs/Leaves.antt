@@ -5,8 +5,8 @@ use mathlib.Core.Logic.{_≢_}
 use mathlib.Core.List.{List}
 use Rattle.state.specs.declared.BatchCoalescer.{BatchCoalescer}
 use Rattle.state.specs.World.{World, world}
 use Rattle.rules.specs.Steps.{Res, ok, refuse, bind}
-use Rattle.columns.specs.declared.Step.{Step}
+use Rattle.rules.specs.declared.Step.{Step}
 
 -- a step that answers 0 leaves the definition's world; one that answers a number refuses with it, as the definition does
 pub record Steps (x : Res) (r : Step) (slots pool books : List ℕ) : Type 0 where

@@ -1,8 +1,8 @@
--- `checks::record_at` meets its contract.
+-- `records::record_at` meets its contract.
 use borrow.Author.Needs.{needs}
-use Rattle.checks.specs.RuleLaws.{record-is}
-use Rattle.checks.proofs.record_at.Statement.{statement}
-use Rattle.checks.proofs.record_at.Tie as tie
+use Rattle.records.specs.RecordLaws.{record-is}
+use Rattle.records.proofs.record_at.Statement.{statement}
+use Rattle.records.proofs.record_at.Tie as tie
 
 mul-at : tie.Need-mul-at
 mul-at c = search needs

@@ -1,10 +1,10 @@
--- `in_progress::compact` meets its contract.
+-- `in_progress::append_views_and_copy_strings` meets its contract.
 use borrow.Author.Needs.{needs}
 use Rattle.in_progress.specs.CompactLaws.{compact-long, compact-new, compact-entry, compact-fits, compact-walks, compact-copied, compact-walked}
 use Rattle.in_progress.specs.StringLaws.{block-at}
 use Rattle.in_progress.specs.AskLaws.{part-column}
-use Rattle.in_progress.proofs.compact.Statement.{statement}
-use Rattle.in_progress.proofs.compact.Tie as tie
+use Rattle.in_progress.proofs.append_views_and_copy_strings.Statement.{statement}
+use Rattle.in_progress.proofs.append_views_and_copy_strings.Tie as tie
 
 column-of-requires : tie.Need-column-of-requires
 column-of-requires c κs = part-column (c .before .before .before .before .before .pre .0 .part)
@@ -63,8 +63,8 @@ same-length-9 c = search needs
 returns-3 : tie.Need-returns-3
 returns-3 c = compact-walked (c .before .before .before .before .before .before .before .before .before .before .before .before .before .before .before .before .before .before .before .before .before .before .before .before .pre .0) (c .before .before .before .before .before .before .before .before .before .before .before .before .before .before .before .before .before .before .before .before .before .before .before .before .pre .1) (c .before .before .before .before .before .before .before .before .before .before .before .before .before .before .before .before .before .before .column-of .ensures) (search needs) (c .before .before .before .before .before .before .before .before .before .before .before .before .before .rest-of .ensures) (search needs) (c .before .before .before .before .before .before .walk-on .ensures)
 
-pub compact-spec : {M : Type 1} → statement M
-compact-spec =
+pub append-views-and-copy-strings-spec : {M : Type 1} → statement M
+append-views-and-copy-strings-spec =
     tie.close
     (tie.spec
     column-of-requires

@@ -1,0 +1,2 @@
+-- Laws about a column's record.
+pub mod RecordLaws

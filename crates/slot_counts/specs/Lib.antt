@@ -1,0 +1,2 @@
+-- Laws about the counts of a slot.
+pub mod CountLaws
