@@ -54,28 +54,10 @@ module _ (r : ColumnRecord) where
         go true = refl
         go false = refl
 
-    pub not-kind : (r .kind ≡ kind → ⊥) → false ≡ isRuled r kind
-    unfolding isRuled
-    not-kind h = rw (ne-eqb (r .kind) kind h)
-
-    pub not-spare : r .kind ≡ kind → (r .spare ≡ 0 → ⊥) → false ≡ isRuled r kind
-    unfolding isRuled
-    not-spare p h = rw (eq-eqb (r .kind) kind p, ne-eqb (r .spare) 0 h)
-
-    pub not-spare2 : r .kind ≡ kind → r .spare ≡ 0 → (r .spare2 ≡ 0 → ⊥) → false ≡ isRuled r kind
-    unfolding isRuled
-    not-spare2 p q h = rw (eq-eqb (r .kind) kind p, eq-eqb (r .spare) 0 q, ne-eqb (r .spare2) 0 h)
-
-    -- the rest of the rules, where the first three hold
-    ruled-rest : r .kind ≡ kind → r .spare ≡ 0 → r .spare2 ≡ 0 → (bitRuled r && listRuled r kind) ≡ isRuled r kind
+    -- keeps_rules: its tests together
+    pub ruled-are : {x y : Bool} → x ≡ bitRuled r → y ≡ listRuled r kind → (eqb (r .kind) kind && (eqb (r .spare) 0 && (eqb (r .spare2) 0 && (x && y)))) ≡ isRuled r kind
     unfolding isRuled bitRuled listRuled
-    ruled-rest p q h = rw (eq-eqb (r .kind) kind p, eq-eqb (r .spare) 0 q, eq-eqb (r .spare2) 0 h)
-
-    pub not-bit : {x : Bool} → r .kind ≡ kind → r .spare ≡ 0 → r .spare2 ≡ 0 → x ≡ bitRuled r → x ≡ false → false ≡ isRuled r kind
-    not-bit p q h e z = both-fails (listRuled r kind) (sym e ∙ z) ∙ ruled-rest p q h
-
-    pub ruled-last : {x y : Bool} → r .kind ≡ kind → r .spare ≡ 0 → r .spare2 ≡ 0 → x ≡ bitRuled r → x ≡ true → y ≡ listRuled r kind → y ≡ isRuled r kind
-    ruled-last p q h e z f = f ∙ both-rest (listRuled r kind) (sym e ∙ z) ∙ ruled-rest p q h
+    ruled-are p q = rw (p, q)
 
 -- ---- 5
 
@@ -114,17 +96,10 @@ module _ (r : ColumnRecord) (rows : ℕ) where
   bits-some size {n} {x} h e f = rw (ne-eqb (r .validity) 4294967295 h, ← e) f
 
   module _ (width size : ℕ) {x : Bool} where
-    pub not-values : x ≡ inBody (r .values) (rows * width) size → x ≡ false → false ≡ liesWithin r rows width size
-    unfolding liesWithin
-    not-values e z = both-fails _ (sym e ∙ z)
-
-    pub not-bits : {y : Bool} → x ≡ inBody (r .values) (rows * width) size → x ≡ true → y ≡ bitsWithin r rows size → y ≡ false → false ≡ liesWithin r rows width size
+    -- lies_in_body: its tests together
+    pub lies-are : {y l : Bool} → x ≡ inBody (r .values) (rows * width) size → y ≡ bitsWithin r rows size → l ≡ inBody (r .list) (4 * r .count) size → (x && (y && l)) ≡ liesWithin r rows width size
     unfolding liesWithin bitsWithin
-    not-bits e z f w = both-fails _ (sym f ∙ w) ∙ both-rest _ (sym e ∙ z)
-
-    pub lies-last : {y l : Bool} → x ≡ inBody (r .values) (rows * width) size → x ≡ true → y ≡ bitsWithin r rows size → y ≡ true → l ≡ inBody (r .list) (4 * r .count) size → l ≡ liesWithin r rows width size
-    unfolding liesWithin bitsWithin
-    lies-last e z f w g = g ∙ both-rest _ (sym f ∙ w) ∙ both-rest _ (sym e ∙ z)
+    lies-are p q s = rw (p, q, s)
 
     -- what 5 tells of the values and of the list
     pub values-in : x ≡ liesWithin r rows width size → x ≡ true → inBody (r .values) (rows * width) size ≡ true

@@ -47,20 +47,7 @@ fn list_ruled(r: ColumnRecord, kind: u32) -> bool
 fn keeps_rules(r: ColumnRecord, kind: u32) -> bool
     ensures { λ x. ⌜ x ≡ isRuled r kind ⌝ }
 {
-    if r.kind != kind {
-        return false;
-    }
-    if r.spare != 0 {
-        return false;
-    }
-    if r.spare2 != 0 {
-        return false;
-    }
-    if bit_ruled(r) {
-        list_ruled(r, kind)
-    } else {
-        false
-    }
+    (r.kind == kind) & ((r.spare == 0) & ((r.spare2 == 0) & (bit_ruled(r) & list_ruled(r, kind))))
 }
 
 // Whether n bytes from a start on lie in so many; no bytes need no place.
@@ -104,15 +91,8 @@ fn lies_in_body(r: ColumnRecord, rows: u32, width: u32, size: u64) -> bool
     requires { ⌜ (rows ≤ 65536) × (width ≤ 32) ⌝ }
     ensures { λ x. ⌜ x ≡ liesWithin r rows width size ⌝ }
 {
-    if in_body(r.values, (rows as u64) * (width as u64), size) {
-        if bits_in_body(r, rows, size) {
-            in_body(r.list, 4 * (r.count as u64), size)
-        } else {
-            false
-        }
-    } else {
-        false
-    }
+    in_body(r.values, (rows as u64) * (width as u64), size)
+        & (bits_in_body(r, rows, size) & in_body(r.list, 4 * (r.count as u64), size))
 }
 
 // Whether the caller holds a buffer.

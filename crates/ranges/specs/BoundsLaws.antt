@@ -119,18 +119,9 @@ module _ (s : BatchCoalescer) (slots pool books : ℕ) {b : Bool} (p : b ≡ inB
   unfolding fitsLengths
   fits-bounds x = rw (← p, x)
 
-  module _ (x : b ≡ true) {m : ℕ} (q : m ≡ slotsLength s) where
-    pub fits-slots : (slots ≡ m → ⊥) → false ≡ fitsLengths s slots pool books
-    unfolding fitsLengths
-    fits-slots h = rw (← p, x, ← q, ne-eqb slots m h)
-
-    pub fits-pool : slots ≡ m → (pool ≡ s .pool .0 → ⊥) → false ≡ fitsLengths s slots pool books
-    unfolding fitsLengths
-    fits-pool h k = rw (← p, x, ← q, eq-eqb slots m h, ne-eqb pool (s .pool .0) k)
-
-    pub fits-last : {n : ℕ} → slots ≡ m → pool ≡ s .pool .0 → n ≡ booksLength s → eqb books n ≡ fitsLengths s slots pool books
-    unfolding fitsLengths
-    fits-last h k r = rw (← p, x, ← q, eq-eqb slots m h, eq-eqb pool (s .pool .0) k, ← r)
+  pub fits-are : {m n : ℕ} → b ≡ true → m ≡ slotsLength s → n ≡ booksLength s → (eqb slots m && (eqb pool (s .pool .0) && eqb books n)) ≡ fitsLengths s slots pool books
+  unfolding fitsLengths
+  fits-are x q r = rw (← p, x, q, r)
 
 -- what the test of 1 says
 pub record FitsSetUp (s : BatchCoalescer) (slots pool books : ℕ) : Type 0 where

@@ -152,41 +152,22 @@ module _ (s : BatchCoalescer) (slots books : List ℕ) where
   pub slots-done : (i : ℕ) → All (slotInRange (world s slots [] books)) i → s .queue < i → true ≡ every (slotInRange (world s slots [] books)) (s .queue + 1)
   slots-done i a l = all-done (s .queue + 1) a (omega arith)
 
--- state_in_range
+-- state_in_range: its tests together, and a place past the last slot
 module _ (s : BatchCoalescer) (slots books : List ℕ) where
-  pub state-buffered : s .target .0 ≤ s .buffered .0 → false ≡ stateInRange (world s slots [] books)
+  pub state-is : {a b r : Bool} → s .place ≤ s .queue → a ≡ inRange books (s .numbers) (s .pool .0) → b ≡ every (columnInRange (world s [] [] books)) (s .columns) → r ≡ every (slotInRange (world s slots [] books)) (s .queue + 1) → (ltb (s .buffered .0) (s .target .0) && (leb (s .queued) (s .queue) && (a && (b && r)))) ≡ stateInRange (world s slots [] books)
+  unfolding stateInRange columnInRange listLength
+  state-is h p q t = rw (le-leb (s .place) (s .queue) h, p, q, t)
+
+  pub state-place : s .queue < s .place → false ≡ stateInRange (world s slots [] books)
   unfolding stateInRange
-  state-buffered h = rw (le-ltb (s .buffered .0) (s .target .0) h)
-
-  module _ (h : s .buffered .0 < s .target .0) where
-    pub state-queued : s .queue < s .queued → false ≡ stateInRange (world s slots [] books)
-    unfolding stateInRange
-    state-queued k = rw (lt-ltb (s .buffered .0) (s .target .0) h, lt-leb (s .queued) (s .queue) k)
-
-    module _ (k : s .queued ≤ s .queue) where
-      pub state-place : s .queue < s .place → false ≡ stateInRange (world s slots [] books)
-      unfolding stateInRange
-      state-place l = rw (lt-ltb (s .buffered .0) (s .target .0) h, le-leb (s .queued) (s .queue) k, lt-leb (s .place) (s .queue) l)
-
-      module _ (l : s .place ≤ s .queue) {a : Bool} (p : a ≡ inRange books (s .numbers) (s .pool .0)) where
-        pub state-books : a ≡ false → false ≡ stateInRange (world s slots [] books)
-        unfolding stateInRange
-        state-books x = rw (lt-ltb (s .buffered .0) (s .target .0) h, le-leb (s .queued) (s .queue) k, le-leb (s .place) (s .queue) l, ← p, x)
-
-        module _ (x : a ≡ true) {b : Bool} (q : b ≡ every (columnInRange (world s [] [] books)) (s .columns)) where
-          same : b ≡ every (columnInRange (world s slots [] books)) (s .columns)
-          unfolding columnInRange listLength
-          same = q
-
-          pub state-columns : b ≡ false → false ≡ stateInRange (world s slots [] books)
-          unfolding stateInRange
-          state-columns y =
-              rw (lt-ltb (s .buffered .0) (s .target .0) h, le-leb (s .queued) (s .queue) k, le-leb (s .place) (s .queue) l, ← p, x, ← same, y)
-
-          pub state-last : {r : Bool} → b ≡ true → r ≡ every (slotInRange (world s slots [] books)) (s .queue + 1) → r ≡ stateInRange (world s slots [] books)
-          unfolding stateInRange
-          state-last y z =
-              rw (lt-ltb (s .buffered .0) (s .target .0) h, le-leb (s .queued) (s .queue) k, le-leb (s .place) (s .queue) l, ← p, x, ← same, y) z
+  state-place h =
+      rw (lt-leb (s .place) (s .queue) h)
+      (none (ltb (s .buffered .0) (s .target .0)) (leb (s .queued) (s .queue)))
+    where
+      none : (a b : Bool) → false ≡ (a && (b && false))
+      none false b = refl
+      none true false = refl
+      none true true = refl
 
 -- tested
 module _ (s : BatchCoalescer) (slots pool books : List ℕ) {a : Bool} (p : a ≡ fitsLengths s (length slots) (length pool) (length books)) where

@@ -59,15 +59,8 @@ pub fn fits_set_up(s: BatchCoalescer, slots: usize, pool: usize, books: usize) -
     ensures { λ r. ⌜ r ≡ fitsLengths s slots pool books ⌝ }
 {
     if in_bounds(s) {
-        if slots == layout::slots_length(s) {
-            if pool == (s.pool.0 as usize) {
-                books == layout::books_length(s)
-            } else {
-                false
-            }
-        } else {
-            false
-        }
+        (slots == layout::slots_length(s))
+            & ((pool == (s.pool.0 as usize)) & (books == layout::books_length(s)))
     } else {
         false
     }
@@ -194,24 +187,11 @@ fn state_in_range(s: BatchCoalescer, slots: &[u8], books: &[u8]) -> bool
     requires { ⌜ Sized s (length (now slots)) (length (now books)) ⌝ }
     ensures { λ r. ⌜ r ≡ stateInRange (world s (now (slots .entry)) [] (now (books .entry))) ⌝ }
 {
-    if s.buffered.0 < s.target.0 {
-        if s.queued <= s.queue {
-            if s.place <= s.queue {
-                if pool::books_in_range(books, s.numbers, s.pool.0 as u64) {
-                    if columns_in_range(s, books) {
-                        slots_in_range(s, slots, books)
-                    } else {
-                        false
-                    }
-                } else {
-                    false
-                }
-            } else {
-                false
-            }
-        } else {
-            false
-        }
+    if s.place <= s.queue {
+        (s.buffered.0 < s.target.0)
+            & ((s.queued <= s.queue)
+                & (pool::books_in_range(books, s.numbers, s.pool.0 as u64)
+                    & (columns_in_range(s, books) & slots_in_range(s, slots, books))))
     } else {
         false
     }

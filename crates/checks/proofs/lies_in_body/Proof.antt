@@ -1,6 +1,6 @@
 -- `checks::lies_in_body` meets its contract.
 use borrow.Author.Needs.{needs}
-use Rattle.checks.specs.RuleLaws.{values-fit, values-few, not-values, not-bits, lies-last}
+use Rattle.checks.specs.RuleLaws.{values-fit, values-few, lies-are}
 use Rattle.checks.proofs.lies_in_body.Statement.{statement}
 use Rattle.checks.proofs.lies_in_body.Tie as tie
 
@@ -23,13 +23,7 @@ in-body-requires-2 : tie.Need-in-body-requires-2
 in-body-requires-2 c κs = search needs
 
 returns : tie.Need-returns
-returns c = search (lies-last, needs)
-
-returns-2 : tie.Need-returns-2
-returns-2 c = search (not-bits, needs)
-
-returns-3 : tie.Need-returns-3
-returns-3 c = search (not-values, needs)
+returns c = search (lies-are, needs)
 
 pub lies-in-body-spec : {M : Type 1} → statement M
 lies-in-body-spec =
@@ -41,6 +35,4 @@ lies-in-body-spec =
     cast-in-body
     mul-in-body-2
     in-body-requires-2
-    returns
-    returns-2
-    returns-3)
+    returns)

@@ -1,6 +1,6 @@
 -- `ranges::fits_set_up` meets its contract.
 use borrow.Author.Needs.{needs}
-use Rattle.ranges.specs.BoundsLaws.{few-bounds, fits-bounds, fits-slots, fits-pool, fits-last}
+use Rattle.ranges.specs.BoundsLaws.{few-bounds, fits-bounds, fits-are}
 use Rattle.ranges.proofs.fits_set_up.Statement.{statement}
 use Rattle.ranges.proofs.fits_set_up.Tie as tie
 
@@ -10,23 +10,17 @@ in-bounds-requires c κs = search needs
 slots-length-requires : tie.Need-slots-length-requires
 slots-length-requires c κs = search (few-bounds, needs)
 
-cast-if3 : tie.Need-cast-if3
-cast-if3 c = search needs
+cast-result : tie.Need-cast-result
+cast-result c = search needs
 
 books-length-requires : tie.Need-books-length-requires
 books-length-requires c κs = search (few-bounds, needs)
 
 returns : tie.Need-returns
-returns c = search (fits-last, needs)
+returns c = search (fits-are, needs)
 
 returns-2 : tie.Need-returns-2
-returns-2 c = search (fits-pool, needs)
-
-returns-3 : tie.Need-returns-3
-returns-3 c = search (fits-slots, needs)
-
-returns-4 : tie.Need-returns-4
-returns-4 c = search (fits-bounds, needs)
+returns-2 c = search (fits-bounds, needs)
 
 pub fits-set-up-spec : {M : Type 1} → statement M
 fits-set-up-spec =
@@ -34,9 +28,7 @@ fits-set-up-spec =
     (tie.spec
     in-bounds-requires
     slots-length-requires
-    cast-if3
+    cast-result
     books-length-requires
     returns
-    returns-2
-    returns-3
-    returns-4)
+    returns-2)
