@@ -38,7 +38,7 @@ use Rattle.words.specs.Word.{wordOf, word32, withWord32}
 use Rattle.words.specs.Run.{read, put, lay}
 use Rattle.search.specs.First.{firstFrom}
 use Rattle.search.specs.Every.{every}
-use Rattle.rules.specs.Scene.{wordBytes, wordsBytes, fresh as fresh′, numbers, numbered, court, pushes, bytesOfCell, bytesOfRow, bytesOfRows, viewCourt, sample, holding, filledBlock, viewWords, viewed, figures, left, twice, squeezed, lastBlock, mixed, behind}
+use Rattle.worked.specs.Scene.{wordBytes, wordsBytes, fresh as fresh′, numbers, numbered, court, pushes, bytesOfCell, bytesOfRow, bytesOfRows, viewCourt, sample, holding, filledBlock, viewWords, viewed, figures, left, twice, squeezed, lastBlock, mixed, behind}
 
 -- one row of the table
 pub data Case : Type 0 where
