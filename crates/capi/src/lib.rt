@@ -20,7 +20,7 @@ fn keep(state: &mut [u8], refusal: u32, s: BatchCoalescer) -> u32
     ensures { λ r. ⌜ KeepsState refusal s (now (state .entry)) (now (state .exit)) r ⌝ }
 {
     if refusal == 0 {
-        codes::encode(state, s);
+        encoding::encode(state, s);
         0
     } else {
         refusal
@@ -95,7 +95,7 @@ pub extern "C" fn pw_push_batch(
     ensures { λ r. ⌜ HandsOn (memory (now (state .entry)) (now (slots .entry)) (now (pool .entry)) (now (books .entry))) (batch rows (now (records .entry)) (now (body .entry))) r
         (memory (now (state .exit)) (now (slots .exit)) (now (pool .exit)) (now (books .exit))) ⌝ }
 {
-    let coded = codes::decode(state);
+    let coded = decoding::decode(state);
     if coded.number == 0 {
         let s = coded.state;
         let step = coalesce::push_batch(s, slots, pool, books, records, body, RowCount(rows));
@@ -117,7 +117,7 @@ pub extern "C" fn pw_finish_buffered_batch(
     ensures { λ r. ⌜ said r (memory (now (state .exit)) (now (slots .exit)) (now (pool .entry)) (now (books .exit)))
         ≡ called number finishing (memory (now (state .entry)) (now (slots .entry)) (now (pool .entry)) (now (books .entry))) ⌝ }
 {
-    let coded = codes::decode(state);
+    let coded = decoding::decode(state);
     if coded.number == 0 {
         let s = coded.state;
         let step = coalesce::finish_buffered_batch(s, slots, pool, books);
@@ -139,7 +139,7 @@ pub extern "C" fn pw_next_completed_batch(
     ensures { λ r. ⌜ said r (memory (now (state .exit)) (now (slots .entry)) (now (pool .entry)) (now (books .exit)))
         ≡ called both dropping (memory (now (state .entry)) (now (slots .entry)) (now (pool .entry)) (now (books .entry))) ⌝ }
 {
-    let coded = codes::decode(state);
+    let coded = decoding::decode(state);
     if coded.number == 0 {
         let s = coded.state;
         let dropped = completed::next_completed_batch(s, slots, pool, books);
@@ -164,7 +164,7 @@ pub extern "C" fn pw_register_buffer(
     ensures { λ r. ⌜ said r (memory (now (state .entry)) (now (slots .entry)) (now (pool .exit)) (now (books .exit)))
         ≡ called both (registering (now (bytes .entry)) capacity) (memory (now (state .entry)) (now (slots .entry)) (now (pool .entry)) (now (books .entry))) ⌝ }
 {
-    let coded = codes::decode(state);
+    let coded = decoding::decode(state);
     if coded.number == 0 {
         let s = coded.state;
         let answer = reads::register_buffer(s, slots, pool, books, bytes, ByteCount(capacity));
@@ -186,7 +186,7 @@ pub extern "C" fn pw_let_go(
     ensures { λ r. ⌜ said r (memory (now (state .entry)) (now (slots .entry)) (now (pool .entry)) (now (books .exit)))
         ≡ called number (lettingGo buffer) (memory (now (state .entry)) (now (slots .entry)) (now (pool .entry)) (now (books .entry))) ⌝ }
 {
-    let coded = codes::decode(state);
+    let coded = decoding::decode(state);
     if coded.number == 0 {
         let s = coded.state;
         reads::let_go(s, slots, pool, books, BufferNumber(buffer))
@@ -206,7 +206,7 @@ pub extern "C" fn pw_buffer_refusal(
 ) -> u32
     ensures { λ r. ⌜ r ≡ bufferNumber (memory (now (state .entry)) (now (slots .entry)) (now (pool .entry)) (now (books .entry))) buffer ⌝ }
 {
-    let coded = codes::decode(state);
+    let coded = decoding::decode(state);
     if coded.number == 0 {
         let s = coded.state;
         reads::buffer_refusal(s, slots, pool, books, BufferNumber(buffer))
@@ -227,7 +227,7 @@ pub extern "C" fn pw_read_buffer(
 ) -> u64
     ensures { λ r. ⌜ told r (now (out .exit)) ≡ bufferRead (memory (now (state .entry)) (now (slots .entry)) (now (pool .entry)) (now (books .entry))) buffer (now (out .entry)) ⌝ }
 {
-    let coded = codes::decode(state);
+    let coded = decoding::decode(state);
     if coded.number == 0 {
         let s = coded.state;
         let part = reads::read_buffer(s, slots, pool, books, BufferNumber(buffer));
@@ -250,7 +250,7 @@ fn row_answer(
 ) -> RowAnswer
     ensures { λ r. ⌜ r ≡ rowIn (memory (now (state .entry)) (now (slots .entry)) (now (pool .entry)) (now (books .entry))) column row ⌝ }
 {
-    let coded = codes::decode(state);
+    let coded = decoding::decode(state);
     if coded.number == 0 {
         let s = coded.state;
         reads::read_row(s, slots, pool, books, column, row)
@@ -286,10 +286,10 @@ pub extern "C" fn pw_read_row(
 pub extern "C" fn pw_set_biggest_coalesce_batch_size(state: &mut [u8], set: u32, rows: u32) -> u32
     ensures { λ r. ⌜ told r (now (state .exit)) ≡ limitSet set rows (now (state .entry)) ⌝ }
 {
-    let coded = codes::decode(state);
+    let coded = decoding::decode(state);
     if coded.number == 0 {
         let s = coded.state;
-        let limit = codes::limit_of(set, rows);
+        let limit = decoding::limit_of(set, rows);
         let t = queries::set_biggest_coalesce_batch_size(s, limit);
         keep(state, 0, t)
     } else {
@@ -302,7 +302,7 @@ pub extern "C" fn pw_set_biggest_coalesce_batch_size(state: &mut [u8], set: u32,
 pub extern "C" fn pw_biggest_coalesce_batch_size(state: &[u8]) -> u64
     ensures { λ r. ⌜ r ≡ limitRead (now (state .entry)) ⌝ }
 {
-    let coded = codes::decode(state);
+    let coded = decoding::decode(state);
     let s = coded.state;
     crossing::limit_pair(queries::biggest_coalesce_batch_size(s))
 }
@@ -312,7 +312,7 @@ pub extern "C" fn pw_biggest_coalesce_batch_size(state: &[u8]) -> u64
 pub extern "C" fn pw_get_buffered_rows(state: &[u8]) -> u32
     ensures { λ r. ⌜ r ≡ rowsBuffered (now (state .entry)) ⌝ }
 {
-    let coded = codes::decode(state);
+    let coded = decoding::decode(state);
     let s = coded.state;
     queries::get_buffered_rows(s).0
 }
@@ -322,7 +322,7 @@ pub extern "C" fn pw_get_buffered_rows(state: &[u8]) -> u32
 pub extern "C" fn pw_has_completed_batch(state: &[u8]) -> u32
     ensures { λ r. ⌜ r ≡ completedFlag (now (state .entry)) ⌝ }
 {
-    let coded = codes::decode(state);
+    let coded = decoding::decode(state);
     let s = coded.state;
     crossing::flag(queries::has_completed_batch(s))
 }
@@ -332,7 +332,7 @@ pub extern "C" fn pw_has_completed_batch(state: &[u8]) -> u32
 pub extern "C" fn pw_is_empty(state: &[u8]) -> u32
     ensures { λ r. ⌜ r ≡ emptyFlag (now (state .entry)) ⌝ }
 {
-    let coded = codes::decode(state);
+    let coded = decoding::decode(state);
     let s = coded.state;
     crossing::flag(queries::is_empty(s))
 }
