@@ -17,6 +17,7 @@ use Rattle.state.specs.declared.Limit.{Limit}
 use Rattle.state.specs.declared.OpenBlock.{OpenBlock}
 use Rattle.codes.specs.declared.Coded.{Coded}
 use Rattle.codes.specs.Code.{
+  stateBytes,
   isFlagged,
   limitIn,
   blockIn,
@@ -110,18 +111,18 @@ module _ (b : List ℕ) where
       all-fails (isColumnCoded b) 16 c l (sym (flags-column c p′ q′ r″) ∙ t′) ∙ both-rest (every (isColumnCoded b) 16) e
 
   -- the ways out of decode
-  pub decoded-state : {r : Bool} {s : BatchCoalescer} → length b ≡ 304 → r ≡ isCoded b → r ≡ true → s ≡ stateIn b → _≡_ {A = Coded} (record { number = 0; state = s }) (decoded b)
+  pub decoded-state : {r : Bool} {s : BatchCoalescer} → length b ≡ stateBytes → r ≡ isCoded b → r ≡ true → s ≡ stateIn b → _≡_ {A = Coded} (record { number = 0; state = s }) (decoded b)
   unfolding decoded
   decoded-state h p q e =
       let t : isCoded b ≡ true = sym p ∙ q in
-      rw (eq-eqb (length b) 304 h, t, e)
+      rw (eq-eqb (length b) stateBytes h, t, e)
 
-  pub decoded-none : {r : Bool} {s : BatchCoalescer} → length b ≡ 304 → r ≡ isCoded b → r ≡ false → s ≡ zeroState → _≡_ {A = Coded} (record { number = 14; state = s }) (decoded b)
+  pub decoded-none : {r : Bool} {s : BatchCoalescer} → length b ≡ stateBytes → r ≡ isCoded b → r ≡ false → s ≡ zeroState → _≡_ {A = Coded} (record { number = 14; state = s }) (decoded b)
   unfolding decoded
   decoded-none h p q e =
       let t : isCoded b ≡ false = sym p ∙ q in
-      rw (eq-eqb (length b) 304 h, t, e)
+      rw (eq-eqb (length b) stateBytes h, t, e)
 
-  pub decoded-length : {s : BatchCoalescer} → (length b ≡ 304 → ⊥) → s ≡ zeroState → _≡_ {A = Coded} (record { number = 1; state = s }) (decoded b)
+  pub decoded-length : {s : BatchCoalescer} → (length b ≡ stateBytes → ⊥) → s ≡ zeroState → _≡_ {A = Coded} (record { number = 1; state = s }) (decoded b)
   unfolding decoded
-  decoded-length h e = rw (ne-eqb (length b) 304 h, e)
+  decoded-length h e = rw (ne-eqb (length b) stateBytes h, e)

@@ -3,9 +3,10 @@
 ghost use mathlib.Core.Path.{_≡_};
 ghost use Prim.Native.Nat.{_<_};
 ghost use lib.ListN.{length};
-ghost use Rattle.codes.specs.Code.{limitIn, blockIn, isFlagged, isCoded, columnIn, columnsIn, stateIn, zeroState, decoded};
+ghost use Rattle.codes.specs.Code.{stateBytes, limitIn, blockIn, isFlagged, isCoded, columnIn, columnsIn, stateIn, zeroState, decoded};
 use blocks::BufferSource;
 use codes::Coded;
+use codes::STATE_BYTES;
 use counts::BufferNumber;
 use counts::ByteCount;
 use counts::RowCount;
@@ -44,7 +45,7 @@ fn is_flagged(flag: u32, word: u32) -> bool
 
 // Whether every flag is one.
 fn is_coded(bytes: &[u8]) -> bool
-    requires { ⌜ length (now bytes) ≡ 304 ⌝ }
+    requires { ⌜ length (now bytes) ≡ stateBytes ⌝ }
     ensures { λ r. ⌜ r ≡ isCoded (now (bytes .entry)) ⌝ }
 {
     if is_flagged(words::get32(bytes, 28), words::get32(bytes, 32)) {
@@ -65,7 +66,7 @@ fn is_coded(bytes: &[u8]) -> bool
 
 // Column c of coded bytes.
 fn column_at(bytes: &[u8], c: usize) -> Column
-    requires { ⌜ (length (now bytes) ≡ 304) × (c < 16) ⌝ }
+    requires { ⌜ (length (now bytes) ≡ stateBytes) × (c < 16) ⌝ }
     ensures { λ r. ⌜ r ≡ columnIn (now (bytes .entry)) c ⌝ }
 {
     let at = 48 + 16 * c;
@@ -84,7 +85,7 @@ fn column_at(bytes: &[u8], c: usize) -> Column
 
 // The 16 columns of coded bytes.
 fn columns_of(bytes: &[u8]) -> [Column; 16]
-    requires { ⌜ length (now bytes) ≡ 304 ⌝ }
+    requires { ⌜ length (now bytes) ≡ stateBytes ⌝ }
     ensures { λ r. ⌜ r ≡ columnsIn (now (bytes .entry)) 16 ⌝ }
 {
     let none = Column {
@@ -132,7 +133,7 @@ fn zero_state() -> BatchCoalescer
 
 // The state that coded bytes hold.
 fn state_of(bytes: &[u8]) -> BatchCoalescer
-    requires { ⌜ length (now bytes) ≡ 304 ⌝ }
+    requires { ⌜ length (now bytes) ≡ stateBytes ⌝ }
     ensures { λ r. ⌜ r ≡ stateIn (now (bytes .entry)) ⌝ }
 {
     let column = columns_of(bytes);
@@ -152,11 +153,11 @@ fn state_of(bytes: &[u8]) -> BatchCoalescer
     }
 }
 
-// The state that bytes code: 1 where they are not 304, 14 where they code none.
+// The state that bytes code: 1 where they are not so many, 14 where they code none.
 pub fn decode(bytes: &[u8]) -> Coded
     ensures { λ r. ⌜ r ≡ decoded (now (bytes .entry)) ⌝ }
 {
-    if bytes.len() == 304 {
+    if bytes.len() == STATE_BYTES {
         if is_coded(bytes) {
             Coded {
                 number: 0,

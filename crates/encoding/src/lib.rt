@@ -3,7 +3,7 @@ ghost use mathlib.Core.Path.{_≡_};
 ghost use Prim.Native.Nat.{_+_, _≤_};
 ghost use mathlib.Core.List.{[], _∷_, _++_};
 ghost use lib.ListN.{length, take};
-ghost use Rattle.codes.specs.Code.{bytesOf, limitWords, blockWords, columnWords, columnsWords, setUpWords, countWords, codeOf, Words};
+ghost use Rattle.codes.specs.Code.{stateBytes, columnsAt, bytesOf, limitWords, blockWords, columnWords, columnsWords, setUpWords, countWords, codeOf, Words};
 use state::BatchCoalescer;
 use state::Column;
 use state::Limit;
@@ -29,7 +29,7 @@ pub fn put_three(bytes: &mut [u8], at: usize, a: u32, b: u32, c: u32)
 
 // What set-up fixed.
 fn put_set_up(bytes: &mut [u8], s: BatchCoalescer)
-    requires { ⌜ length (now bytes) ≡ 304 ⌝ }
+    requires { ⌜ length (now bytes) ≡ stateBytes ⌝ }
     ensures { λ _. ⌜ take 28 (now (bytes .exit)) ≡ bytesOf (setUpWords s) ⌝ }
 {
     put_two(bytes, 0, s.target.0, s.rows.0);
@@ -38,7 +38,7 @@ fn put_set_up(bytes: &mut [u8], s: BatchCoalescer)
 }
 
 fn put_limit(bytes: &mut [u8], limit: Limit)
-    requires { ⌜ length (now bytes) ≡ 304 ⌝ }
+    requires { ⌜ length (now bytes) ≡ stateBytes ⌝ }
     ensures { λ _. ⌜ take 36 (now (bytes .exit)) ≡ take 28 (now (bytes .entry)) ++ bytesOf (limitWords limit) ⌝ }
 {
     match limit {
@@ -53,8 +53,8 @@ fn put_limit(bytes: &mut [u8], limit: Limit)
 
 // What calls change.
 fn put_counts(bytes: &mut [u8], s: BatchCoalescer)
-    requires { ⌜ length (now bytes) ≡ 304 ⌝ }
-    ensures { λ _. ⌜ take 48 (now (bytes .exit)) ≡ take 36 (now (bytes .entry)) ++ bytesOf (countWords s) ⌝ }
+    requires { ⌜ length (now bytes) ≡ stateBytes ⌝ }
+    ensures { λ _. ⌜ take columnsAt (now (bytes .exit)) ≡ take 36 (now (bytes .entry)) ++ bytesOf (countWords s) ⌝ }
 {
     put_three(bytes, 36, s.place, s.queued, s.buffered.0);
 }
@@ -83,8 +83,8 @@ fn put_column(bytes: &mut [u8], at: usize, column: Column)
 }
 
 fn put_columns(bytes: &mut [u8], s: BatchCoalescer)
-    requires { ⌜ length (now bytes) ≡ 304 ⌝ }
-    ensures { λ _. ⌜ now (bytes .exit) ≡ take 48 (now (bytes .entry)) ++ bytesOf (columnsWords s 16) ⌝ }
+    requires { ⌜ length (now bytes) ≡ stateBytes ⌝ }
+    ensures { λ _. ⌜ now (bytes .exit) ≡ take columnsAt (now (bytes .entry)) ++ bytesOf (columnsWords s 16) ⌝ }
 {
     let mut c: usize = 0;
     while c < 16 {
@@ -95,7 +95,7 @@ fn put_columns(bytes: &mut [u8], s: BatchCoalescer)
 
 // The state as bytes. Every value of the struct has words and 16 columns, so that its bytes decode to it: `decoded-code`.
 pub fn encode(bytes: &mut [u8], s: BatchCoalescer)
-    requires { ⌜ length (now bytes) ≡ 304 ⌝ }
+    requires { ⌜ length (now bytes) ≡ stateBytes ⌝ }
     ensures { λ _. ⌜ (now (bytes .exit) ≡ codeOf s) × Words s ⌝ }
 {
     let limit = s.limit;
