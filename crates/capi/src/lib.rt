@@ -4,6 +4,7 @@
 ghost use mathlib.Core.Path.{_≡_};
 ghost use lib.ListN.{length};
 ghost use Rattle.rules.specs.Batch.{batch};
+ghost use Rattle.codes.specs.Code.{stateBytes};
 ghost use Rattle.capi.specs.Api.{memory, said, told, number, both, finishing, dropping, registering, lettingGo, KeepsState, called, askedFor, askable, created};
 ghost use Rattle.capi.specs.HandsOn.{HandsOn};
 ghost use Rattle.capi.specs.Api.{bufferNumber, bufferRead, rowIn, rowRead, limitSet, limitRead, rowsBuffered, completedFlag, emptyFlag};
@@ -16,7 +17,7 @@ use state::RowAnswer;
 
 // The state coded where the number of a refusal is 0; hands on that number.
 fn keep(state: &mut [u8], refusal: u32, s: BatchCoalescer) -> u32
-    requires { ⌜ length (now state) ≡ 304 ⌝ }
+    requires { ⌜ length (now state) ≡ stateBytes ⌝ }
     ensures { λ r. ⌜ KeepsState refusal s (now (state .entry)) (now (state .exit)) r ⌝ }
 {
     if refusal == 0 {
@@ -31,7 +32,7 @@ fn keep(state: &mut [u8], refusal: u32, s: BatchCoalescer) -> u32
 fn is_askable(state: usize, kinds: usize, pool: usize) -> bool
     ensures { λ r. ⌜ r ≡ askable state kinds pool ⌝ }
 {
-    if state == 304 {
+    if state == codes::STATE_BYTES {
         if kinds <= 64 {
             if kinds % 4 == 0 {
                 pool <= 4294967295
