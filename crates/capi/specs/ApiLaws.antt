@@ -26,7 +26,7 @@ use Rattle.rules.specs.RegisterLaws.{register-tested, register-steps, let-go-te
 use Rattle.rules.specs.declared.Step.{Step}
 use Rattle.completed.specs.declared.Dropped.{Dropped}
 use Rattle.completed.specs.Drop.{Drops}
-use Rattle.reads.specs.Reads.{RegistersCall, LetsGoCall}
+use Rattle.buffers.specs.Buffers.{RegistersCall, LetsGoCall}
 use Rattle.finishing.specs.Finish.{answered}
 use Rattle.codes.specs.declared.Coded.{Coded}
 use Rattle.codes.specs.Code.{stateBytes, codeOf, limitIn, isCoded, stateIn, decoded}

@@ -168,7 +168,7 @@ pub extern "C" fn pw_register_buffer(
     let coded = decoding::decode(state);
     if coded.number == 0 {
         let s = coded.state;
-        let answer = reads::register_buffer(s, slots, pool, books, bytes, ByteCount(capacity));
+        let answer = buffers::register_buffer(s, slots, pool, books, bytes, ByteCount(capacity));
         crossing::registered_pair(answer)
     } else {
         crossing::both(coded.number, 0)
@@ -190,7 +190,7 @@ pub extern "C" fn pw_let_go(
     let coded = decoding::decode(state);
     if coded.number == 0 {
         let s = coded.state;
-        reads::let_go(s, slots, pool, books, BufferNumber(buffer))
+        buffers::let_go(s, slots, pool, books, BufferNumber(buffer))
     } else {
         coded.number
     }
@@ -210,7 +210,7 @@ pub extern "C" fn pw_buffer_refusal(
     let coded = decoding::decode(state);
     if coded.number == 0 {
         let s = coded.state;
-        reads::buffer_refusal(s, slots, pool, books, BufferNumber(buffer))
+        buffers::buffer_refusal(s, slots, pool, books, BufferNumber(buffer))
     } else {
         coded.number
     }
@@ -231,7 +231,7 @@ pub extern "C" fn pw_read_buffer(
     let coded = decoding::decode(state);
     if coded.number == 0 {
         let s = coded.state;
-        let part = reads::read_buffer(s, slots, pool, books, BufferNumber(buffer));
+        let part = buffers::read_buffer(s, slots, pool, books, BufferNumber(buffer));
         let size = part.len() as u64;
         crossing::copy_front(out, part);
         size
@@ -254,7 +254,7 @@ fn row_answer(
     let coded = decoding::decode(state);
     if coded.number == 0 {
         let s = coded.state;
-        reads::read_row(s, slots, pool, books, column, row)
+        rows::read_row(s, slots, pool, books, column, row)
     } else {
         RowAnswer::Refused(coded.number)
     }

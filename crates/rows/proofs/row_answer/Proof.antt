@@ -1,9 +1,9 @@
--- `reads::row_answer` meets its contract.
+-- `rows::row_answer` meets its contract.
 use borrow.Author.Needs.{needs}
-use Rattle.reads.specs.ReadLaws.{bit-room, answer-null, answer-value}
+use Rattle.rows.specs.RowLaws.{bit-room, answer-null, answer-value}
 use Rattle.ranges.specs.Passed.{passed-few, passed-slot, passed-column}
-use Rattle.reads.proofs.row_answer.Statement.{statement}
-use Rattle.reads.proofs.row_answer.Tie as tie
+use Rattle.rows.proofs.row_answer.Statement.{statement}
+use Rattle.rows.proofs.row_answer.Tie as tie
 
 bitmap-place-requires : tie.Need-bitmap-place-requires
 bitmap-place-requires c κs = search (passed-few, passed-slot, passed-column, needs)

@@ -1,9 +1,9 @@
--- `reads::front_row` meets its contract.
+-- `rows::front_row` meets its contract.
 use borrow.Author.Needs.{needs}
-use Rattle.reads.specs.ReadLaws.{front-none, front-column, front-row, front-done}
+use Rattle.rows.specs.RowLaws.{front-none, front-column, front-row, front-done}
 use Rattle.ranges.specs.Passed.{passed-few, passed-books, passed-place, passed-queued, passed-row}
-use Rattle.reads.proofs.front_row.Statement.{statement}
-use Rattle.reads.proofs.front_row.Tie as tie
+use Rattle.rows.proofs.front_row.Statement.{statement}
+use Rattle.rows.proofs.front_row.Tie as tie
 
 returns : tie.Need-returns
 returns c = search (front-none, needs)

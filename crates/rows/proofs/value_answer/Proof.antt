@@ -1,10 +1,10 @@
--- `reads::value_answer` meets its contract.
+-- `rows::value_answer` meets its contract.
 use borrow.Author.Needs.{needs}
 use Rattle.layout.specs.PlaceLaws.{views-so}
-use Rattle.reads.specs.ReadLaws.{view-room, value-view, value-plain}
+use Rattle.rows.specs.RowLaws.{view-room, value-view, value-plain}
 use Rattle.ranges.specs.Passed.{passed-few, passed-slot, passed-column, passed-index}
-use Rattle.reads.proofs.value_answer.Statement.{statement}
-use Rattle.reads.proofs.value_answer.Tie as tie
+use Rattle.rows.proofs.value_answer.Statement.{statement}
+use Rattle.rows.proofs.value_answer.Tie as tie
 
 cell-place-requires : tie.Need-cell-place-requires
 cell-place-requires c κs = search (passed-few, passed-slot, passed-column, passed-index, needs)

@@ -1,9 +1,9 @@
--- `reads::view_answer` meets its contract.
+-- `rows::view_answer` meets its contract.
 use borrow.Author.Needs.{needs}
-use Rattle.reads.specs.ReadLaws.{view-inline, view-outside, view-listed}
+use Rattle.rows.specs.RowLaws.{view-inline, view-outside, view-listed}
 use Rattle.ranges.specs.Passed.{passed-few, passed-books, passed-slot, passed-column, passed-listed}
-use Rattle.reads.proofs.view_answer.Statement.{statement}
-use Rattle.reads.proofs.view_answer.Tie as tie
+use Rattle.rows.proofs.view_answer.Statement.{statement}
+use Rattle.rows.proofs.view_answer.Tie as tie
 
 view-at-requires : tie.Need-view-at-requires
 view-at-requires c κs = search needs

@@ -1,9 +1,9 @@
--- `reads::read_buffer` meets its contract.
+-- `buffers::read_buffer` meets its contract.
 use borrow.Author.Needs.{needs}
 use Rattle.ranges.specs.SaysLaws.{says-in-use}
-use Rattle.reads.specs.ReadLaws.{part-refused, part-read}
-use Rattle.reads.proofs.read_buffer.Statement.{statement}
-use Rattle.reads.proofs.read_buffer.Tie as tie
+use Rattle.buffers.specs.BufferLaws.{part-refused, part-read}
+use Rattle.buffers.proofs.read_buffer.Statement.{statement}
+use Rattle.buffers.proofs.read_buffer.Tie as tie
 
 tested-requires : tie.Need-tested-requires
 tested-requires c κs = search needs

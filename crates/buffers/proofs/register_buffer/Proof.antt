@@ -1,10 +1,10 @@
--- `reads::register_buffer` meets its contract.
+-- `buffers::register_buffer` meets its contract.
 use borrow.Author.Needs.{needs}
 use Rattle.ranges.specs.SaysLaws.{says-used, says-entries}
-use Rattle.reads.specs.ReadLaws.{register-refused, register-done}
+use Rattle.buffers.specs.BufferLaws.{register-refused, register-done}
 use Rattle.ranges.specs.Passed.{says-numbers, says-pool-word}
-use Rattle.reads.proofs.register_buffer.Statement.{statement}
-use Rattle.reads.proofs.register_buffer.Tie as tie
+use Rattle.buffers.proofs.register_buffer.Statement.{statement}
+use Rattle.buffers.proofs.register_buffer.Tie as tie
 
 tested-requires : tie.Need-tested-requires
 tested-requires c κs = search needs

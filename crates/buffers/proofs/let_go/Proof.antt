@@ -1,9 +1,9 @@
--- `reads::let_go` meets its contract.
+-- `buffers::let_go` meets its contract.
 use borrow.Author.Needs.{needs}
 use Rattle.ranges.specs.SaysLaws.{says-in-use}
-use Rattle.reads.specs.ReadLaws.{go-refused, go-done}
-use Rattle.reads.proofs.let_go.Statement.{statement}
-use Rattle.reads.proofs.let_go.Tie as tie
+use Rattle.buffers.specs.BufferLaws.{go-refused, go-done}
+use Rattle.buffers.proofs.let_go.Statement.{statement}
+use Rattle.buffers.proofs.let_go.Tie as tie
 
 tested-requires : tie.Need-tested-requires
 tested-requires c κs = search needs

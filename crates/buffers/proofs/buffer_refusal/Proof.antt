@@ -1,9 +1,9 @@
--- `reads::buffer_refusal` meets its contract.
+-- `buffers::buffer_refusal` meets its contract.
 use borrow.Author.Needs.{needs}
 use Rattle.ranges.specs.SaysLaws.{says-in-use}
-use Rattle.reads.specs.ReadLaws.{number-refused, number-read}
-use Rattle.reads.proofs.buffer_refusal.Statement.{statement}
-use Rattle.reads.proofs.buffer_refusal.Tie as tie
+use Rattle.buffers.specs.BufferLaws.{number-refused, number-read}
+use Rattle.buffers.proofs.buffer_refusal.Statement.{statement}
+use Rattle.buffers.proofs.buffer_refusal.Tie as tie
 
 tested-requires : tie.Need-tested-requires
 tested-requires c κs = search needs

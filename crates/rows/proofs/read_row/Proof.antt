@@ -1,9 +1,9 @@
--- `reads::read_row` meets its contract.
+-- `rows::read_row` meets its contract.
 use borrow.Author.Needs.{needs}
-use Rattle.reads.specs.ReadLaws.{row-refused, row-read}
+use Rattle.rows.specs.RowLaws.{row-refused, row-read}
 use Rattle.ranges.specs.Passed.{passed}
-use Rattle.reads.proofs.read_row.Statement.{statement}
-use Rattle.reads.proofs.read_row.Tie as tie
+use Rattle.rows.proofs.read_row.Statement.{statement}
+use Rattle.rows.proofs.read_row.Tie as tie
 
 tested-requires : tie.Need-tested-requires
 tested-requires c κs = search needs
