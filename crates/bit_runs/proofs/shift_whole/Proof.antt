@@ -1,12 +1,13 @@
--- `bits::shift_whole` meets its contract. The invariant: the whole bytes passed are appended; the measure is how many are left.
+-- `bit_runs::shift_whole` meets its contract. The invariant: the whole bytes passed are appended; the measure is how many are left.
 use Prim.Native.Nat.{_≤_, _*_, _-_}
 use mathlib.Core.Path.{_≡_}
 use lib.ListN.{length}
 use borrow.Author.Needs.{needs}
 use Rattle.bits.specs.Bits.{bitsFrom, appended}
-use Rattle.bits.specs.CodeLaws.{appended-none, shift-more, whole-all}
-use Rattle.bits.proofs.shift_whole.Statement.{statement}
-use Rattle.bits.proofs.shift_whole.Tie as tie
+use Rattle.bits.specs.CodeLaws.{appended-none}
+use Rattle.bit_runs.specs.RunLaws.{shift-more, whole-all}
+use Rattle.bit_runs.proofs.shift_whole.Statement.{statement}
+use Rattle.bit_runs.proofs.shift_whole.Tie as tie
 
 abbrev Inv-loop : tie.InvT-loop
 Inv-loop dst₀ d src q s m i₀ dst i = (i ≤ m) × (length dst ≡ length dst₀) × (dst ≡ appended dst₀ (8 * d) (bitsFrom src q s) (8 * i))

@@ -1,10 +1,10 @@
--- `bits::append_ones` meets its contract.
+-- `bit_runs::append_ones` meets its contract.
 use native.Mathlib.Omega.{arith}
 use borrow.Author.Needs.{needs}
 use Rattle.bits.specs.Bits.{headBits}
-use Rattle.bits.specs.CodeLaws.{ones-parts}
-use Rattle.bits.proofs.append_ones.Statement.{statement}
-use Rattle.bits.proofs.append_ones.Tie as tie
+use Rattle.bit_runs.specs.RunLaws.{ones-parts}
+use Rattle.bit_runs.proofs.append_ones.Statement.{statement}
+use Rattle.bit_runs.proofs.append_ones.Tie as tie
 
 head-bits-requires : tie.Need-head-bits-requires
 head-bits-requires c κs = search needs

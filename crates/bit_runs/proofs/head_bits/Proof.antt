@@ -1,9 +1,9 @@
--- `bits::head_bits` meets its contract.
+-- `bit_runs::head_bits` meets its contract.
 use native.Mathlib.Omega.{arith}
 use borrow.Author.Needs.{needs}
 use Rattle.bits.specs.Bits.{headBits}
-use Rattle.bits.proofs.head_bits.Statement.{statement}
-use Rattle.bits.proofs.head_bits.Tie as tie
+use Rattle.bit_runs.proofs.head_bits.Statement.{statement}
+use Rattle.bit_runs.proofs.head_bits.Tie as tie
 
 sub-c : tie.Need-sub-c
 sub-c c = search needs

@@ -1,8 +1,8 @@
--- `bits::append_whole` meets its contract.
+-- `bit_runs::append_whole` meets its contract.
 use borrow.Author.Needs.{needs}
-use Rattle.bits.specs.CodeLaws.{whole-moved}
-use Rattle.bits.proofs.append_whole.Statement.{statement}
-use Rattle.bits.proofs.append_whole.Tie as tie
+use Rattle.bit_runs.specs.RunLaws.{whole-moved}
+use Rattle.bit_runs.proofs.append_whole.Statement.{statement}
+use Rattle.bit_runs.proofs.append_whole.Tie as tie
 
 add-q : tie.Need-add-q
 add-q c = search needs
