@@ -57,7 +57,7 @@ pub fn buffer_refusal(
 {
     let number = ranges::tested(s, slots, pool, books);
     if number == 0 {
-        pool::buffer_refusal(books, pool, buffer)
+        pool_reads::buffer_refusal(books, pool, buffer)
     } else {
         number
     }
@@ -74,7 +74,7 @@ pub fn read_buffer<'a>(
     ensures { λ r. ⌜ now r ≡ bufferCall (world s (now (slots .entry)) (now (pool .entry)) (now (books .entry))) (buffer .0) ⌝ }
 {
     if ranges::tested(s, slots, pool, books) == 0 {
-        pool::buffer_part(books, pool, buffer)
+        pool_reads::buffer_part(books, pool, buffer)
     } else {
         &pool[..0]
     }

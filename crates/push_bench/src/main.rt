@@ -276,7 +276,7 @@ fn new_text() -> [u8; 400000] {
 }
 
 fn main() {
-    let mut state = [0u8; codes::STATE_BYTES];
+    let mut state = [0u8; 304];
     let mut slots = new_slots();
     let mut pool = new_pool();
     let mut books = [0u8; 2048];

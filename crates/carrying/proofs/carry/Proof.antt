@@ -1,12 +1,12 @@
--- `pool::carry` meets its contract.
+-- `carrying::carry` meets its contract.
 use Prim.Native.Nat.{_≤_, _-_}
 use mathlib.Core.Path.{_≡_}
 use lib.ListN.{length}
 use borrow.Author.Needs.{needs}
 use Rattle.pool.specs.Carry.{carried}
 use Rattle.pool.specs.CarryLaws.{carried-none, carried-more, carried-all}
-use Rattle.pool.proofs.carry.Statement.{statement}
-use Rattle.pool.proofs.carry.Tie as tie
+use Rattle.carrying.proofs.carry.Statement.{statement}
+use Rattle.carrying.proofs.carry.Tie as tie
 
 abbrev Inv-loop : tie.InvT-loop
 Inv-loop pool₀ from to n i₀ pool i = (i ≤ n) × (length pool ≡ length pool₀) × (pool ≡ carried pool₀ from to i)

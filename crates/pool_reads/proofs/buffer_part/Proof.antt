@@ -1,8 +1,8 @@
--- `pool::buffer_part` meets its contract.
+-- `pool_reads::buffer_part` meets its contract.
 use borrow.Author.Needs.{needs}
 use Rattle.pool.specs.ReadLaws.{part-room, part-within, part-is, part-not}
-use Rattle.pool.proofs.buffer_part.Statement.{statement}
-use Rattle.pool.proofs.buffer_part.Tie as tie
+use Rattle.pool_reads.proofs.buffer_part.Statement.{statement}
+use Rattle.pool_reads.proofs.buffer_part.Tie as tie
 
 buffer-refusal-requires : tie.Need-buffer-refusal-requires
 buffer-refusal-requires c κs = search needs

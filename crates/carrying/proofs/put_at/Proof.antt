@@ -1,8 +1,8 @@
--- `pool::put_at` meets its contract.
+-- `carrying::put_at` meets its contract.
 use borrow.Author.Needs.{needs}
 use Rattle.pool.specs.CarryLaws.{put-part}
-use Rattle.pool.proofs.put_at.Statement.{statement}
-use Rattle.pool.proofs.put_at.Tie as tie
+use Rattle.carrying.proofs.put_at.Statement.{statement}
+use Rattle.carrying.proofs.put_at.Tie as tie
 
 sub-put : tie.Need-sub-put
 sub-put c = search needs

@@ -1,9 +1,9 @@
--- `pool::buffer_refusal` meets its contract.
+-- `pool_reads::buffer_refusal` meets its contract.
 use borrow.Author.Needs.{needs}
 use Rattle.books.specs.SearchLaws.{used-room}
 use Rattle.pool.specs.ReadLaws.{read-beyond, read-free, read-past, read-done}
-use Rattle.pool.proofs.buffer_refusal.Statement.{statement}
-use Rattle.pool.proofs.buffer_refusal.Tie as tie
+use Rattle.pool_reads.proofs.buffer_refusal.Statement.{statement}
+use Rattle.pool_reads.proofs.buffer_refusal.Tie as tie
 
 get32-requires : tie.Need-get32-requires
 get32-requires c κs = search needs

@@ -1,8 +1,8 @@
--- `pool::fits_in` meets its contract.
+-- `buffer_ranges::fits_in` meets its contract.
 use borrow.Author.Needs.{needs}
 use Rattle.pool.specs.ReadLaws.{fits-last, fits-long, fits-past}
-use Rattle.pool.proofs.fits_in.Statement.{statement}
-use Rattle.pool.proofs.fits_in.Tie as tie
+use Rattle.buffer_ranges.proofs.fits_in.Statement.{statement}
+use Rattle.buffer_ranges.proofs.fits_in.Tie as tie
 
 cast-if1 : tie.Need-cast-if1
 cast-if1 c = search needs

@@ -1,10 +1,10 @@
--- `pool::books_in_range` meets its contract.
+-- `buffer_ranges::books_in_range` meets its contract.
 use Prim.Native.Nat.{_≤_, _<_, _-_, _^_}
 use borrow.Author.Needs.{needs}
 use Rattle.pool.specs.ReadLaws.{fit, range-none, range-more, range-room, range-over, range-fails, range-done}
 use Rattle.search.specs.Every.{All}
-use Rattle.pool.proofs.books_in_range.Statement.{statement}
-use Rattle.pool.proofs.books_in_range.Tie as tie
+use Rattle.buffer_ranges.proofs.books_in_range.Statement.{statement}
+use Rattle.buffer_ranges.proofs.books_in_range.Tie as tie
 
 abbrev Inv-loop : tie.InvT-loop
 Inv-loop books n pool used i₀ i = (i ≤ used) × (used < 2 ^ 32) × All (fit books pool) i
