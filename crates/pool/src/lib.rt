@@ -51,7 +51,7 @@ pub fn register(
         return Registered::Refused(13);
     }
     let size = pool.len() as u32;
-    let chosen = room::choose(books, n, size, ByteSum(capacity.0 as u64));
+    let chosen = making_room::choose(books, n, size, ByteSum(capacity.0 as u64));
     match chosen {
         Chosen::Refused(number) => Registered::Refused(number),
         Chosen::At(r) => {

@@ -1,12 +1,12 @@
--- `books::sweep` meets its contract.
+-- `gaps::sweep` meets its contract.
 use Prim.Native.Nat.{_≤_, _<_, _-_, _^_}
 use mathlib.Core.Path.{_≡_}
 use borrow.Author.Needs.{needs}
 use Rattle.books.specs.GapLaws.{swept-none, swept-more, swept-all, past-bound}
 use Rattle.books.specs.Search.{swept}
 use Rattle.books.specs.SearchLaws.{used-room}
-use Rattle.books.proofs.sweep.Statement.{statement}
-use Rattle.books.proofs.sweep.Tie as tie
+use Rattle.gaps.proofs.sweep.Statement.{statement}
+use Rattle.gaps.proofs.sweep.Tie as tie
 
 abbrev Inv-loop : tie.InvT-loop
 Inv-loop books at size used next₀ i₀ next i = (i ≤ used) × (used < 2 ^ 32) × (next < 2 ^ 33) × (next ≡ swept books size at i)

@@ -1,12 +1,12 @@
--- `room::end_trial` meets its contract.
+-- `trial_end::end_trial` meets its contract.
 use Prim.Native.Nat.{_≤_, _<_, _-_, _^_}
 use mathlib.Core.Path.{_≡_}
 use lib.ListN.{length}
 use borrow.Author.Needs.{needs}
 use Rattle.room.specs.Trial.{wiped}
 use Rattle.room.specs.TrialLaws.{wiped-none, wiped-more, untried-is, trial-room}
-use Rattle.room.proofs.end_trial.Statement.{statement}
-use Rattle.room.proofs.end_trial.Tie as tie
+use Rattle.trial_end.proofs.end_trial.Statement.{statement}
+use Rattle.trial_end.proofs.end_trial.Tie as tie
 
 abbrev Inv-loop : tie.InvT-loop
 Inv-loop books₀ used top i₀ books i = (i ≤ top) × (top < 2 ^ 32) × (length books ≡ length books₀) × (books ≡ wiped books₀ i)

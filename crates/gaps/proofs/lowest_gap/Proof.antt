@@ -1,12 +1,12 @@
--- `books::lowest_gap` meets its contract.
+-- `gaps::lowest_gap` meets its contract.
 use Prim.Native.Nat.{_<_, _-_, _+_, _^_}
 use borrow.Author.Needs.{needs}
 use Rattle.books.specs.GapLaws.{gap-none, gap-past, gap-here, gap-turn, gap-less}
 use Rattle.books.specs.Search.{clearAt}
 use Rattle.search.specs.First.{Passed}
 use Rattle.search.specs.FirstLaws.{passed-none}
-use Rattle.books.proofs.lowest_gap.Statement.{statement}
-use Rattle.books.proofs.lowest_gap.Tie as tie
+use Rattle.gaps.proofs.lowest_gap.Statement.{statement}
+use Rattle.gaps.proofs.lowest_gap.Tie as tie
 
 abbrev Inv-loop : tie.InvT-loop
 Inv-loop books pool want end at₀ at = (at < 2 ^ 33) × Passed (clearAt books want) at

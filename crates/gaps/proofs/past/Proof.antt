@@ -1,8 +1,8 @@
--- `books::past` meets its contract.
+-- `gaps::past` meets its contract.
 use borrow.Author.Needs.{needs}
 use Rattle.books.specs.GapLaws.{past-free, past-end, past-apart}
-use Rattle.books.proofs.past.Statement.{statement}
-use Rattle.books.proofs.past.Tie as tie
+use Rattle.gaps.proofs.past.Statement.{statement}
+use Rattle.gaps.proofs.past.Tie as tie
 
 is-free-requires : tie.Need-is-free-requires
 is-free-requires c κs = search needs

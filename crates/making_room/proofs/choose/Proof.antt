@@ -1,8 +1,8 @@
--- `room::choose` meets its contract.
+-- `making_room::choose` meets its contract.
 use borrow.Author.Needs.{needs}
 use Rattle.room.specs.RoomLaws.{no-number, no-gap, room-found}
-use Rattle.room.proofs.choose.Statement.{statement}
-use Rattle.room.proofs.choose.Tie as tie
+use Rattle.making_room.proofs.choose.Statement.{statement}
+use Rattle.making_room.proofs.choose.Tie as tie
 
 lowest-free-requires : tie.Need-lowest-free-requires
 lowest-free-requires c κs = search needs

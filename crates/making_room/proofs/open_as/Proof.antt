@@ -1,9 +1,9 @@
--- `room::open_as` meets its contract.
+-- `making_room::open_as` meets its contract.
 use native.Mathlib.Omega.{arith}
 use borrow.Author.Needs.{needs}
 use Rattle.room.specs.RoomLaws.{number-room, number-few, capacity-fits, opens-not, opens-at}
-use Rattle.room.proofs.open_as.Statement.{statement}
-use Rattle.room.proofs.open_as.Tie as tie
+use Rattle.making_room.proofs.open_as.Statement.{statement}
+use Rattle.making_room.proofs.open_as.Tie as tie
 
 choose-requires : tie.Need-choose-requires
 choose-requires c κs = search needs

@@ -1,8 +1,8 @@
--- `room::wipe_one` meets its contract.
+-- `trial_end::wipe_one` meets its contract.
 use borrow.Author.Needs.{needs}
 use Rattle.room.specs.TrialLaws.{wiped-marked, wiped-not}
-use Rattle.room.proofs.wipe_one.Statement.{statement}
-use Rattle.room.proofs.wipe_one.Tie as tie
+use Rattle.trial_end.proofs.wipe_one.Statement.{statement}
+use Rattle.trial_end.proofs.wipe_one.Tie as tie
 
 entry-at-requires : tie.Need-entry-at-requires
 entry-at-requires c κs = search needs

@@ -1,11 +1,11 @@
--- `books::lowest_free` meets its contract.
+-- `gaps::lowest_free` meets its contract.
 use Prim.Native.Nat.{_≤_, _<_, _-_, _^_}
 use borrow.Author.Needs.{needs}
 use Rattle.books.specs.Entry.{isFreeAt}
 use Rattle.books.specs.SearchLaws.{used-room′, free-none, free-more, free-here, free-next, free-nothing}
 use Rattle.search.specs.First.{Passed}
-use Rattle.books.proofs.lowest_free.Statement.{statement}
-use Rattle.books.proofs.lowest_free.Tie as tie
+use Rattle.gaps.proofs.lowest_free.Statement.{statement}
+use Rattle.gaps.proofs.lowest_free.Tie as tie
 
 abbrev Inv-loop : tie.InvT-loop
 Inv-loop books n used i₀ i = (i ≤ used) × (used < 2 ^ 32) × Passed (isFreeAt books) i

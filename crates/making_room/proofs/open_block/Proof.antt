@@ -1,8 +1,8 @@
--- `room::open_block` meets its contract.
+-- `making_room::open_block` meets its contract.
 use borrow.Author.Needs.{needs}
 use Rattle.room.specs.RoomLaws.{opened-is}
-use Rattle.room.proofs.open_block.Statement.{statement}
-use Rattle.room.proofs.open_block.Tie as tie
+use Rattle.making_room.proofs.open_block.Statement.{statement}
+use Rattle.making_room.proofs.open_block.Tie as tie
 
 open-as-requires : tie.Need-open-as-requires
 open-as-requires c κs = search needs
