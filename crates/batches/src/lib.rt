@@ -44,7 +44,7 @@ fn tell_refusal(text: &[u8], refusal: u64) {
 fn tell_counts(state: &[u8], refusal: u32) {
     if refusal != 0 {
         say(b": refused ", refusal as u64);
-    } else if state.len() == 304 {
+    } else if state.len() == codes::STATE_BYTES {
         say(b": buffered ", capi::pw_get_buffered_rows(state) as u64);
         say(b", batches ", words::get32(state, 40) as u64);
     }

@@ -6,7 +6,6 @@ use native.Mathlib.Omega.{arith}
 use native.Mathlib.Decide.{decLt}
 use native.Mathlib.Numerals.{add-one}
 use lib.ListN.{length, getD}
-use borrow.Author.Tests.{lt-ltb, le-ltb, eq-eqb, ne-eqb}
 use mir.Syntax.{w8}
 use mir.Val.{Fits}
 use Rattle.words.specs.Word.{word32}
@@ -18,8 +17,7 @@ use Rattle.views.specs.View.{viewOf, longLength, raisedBy, withView}
 use Rattle.views.specs.StoreLaws.{view-fits}
 use Rattle.views.specs.ShowLaws.{long-none, long-some}
 use Rattle.views.specs.Raise.{Raises}
-use Rattle.rules.specs.declared.Way.{Way}
-use Rattle.rules.specs.Batch.{sumTo, wayOf}
+use Rattle.rules.specs.Batch.{sumTo}
 use Rattle.rules.specs.Copies.{viewsAt, longTo, viewsPut}
 use Rattle.byte_view.specs.Copying.{capacities, Entered, Raisable}
 
@@ -99,19 +97,6 @@ entered-room i h a e = omega (arith, h .entries i a)
 
 pub entered-listed : {books body : List ℕ} {list count : ℕ} (i : ℕ) → Entered books body list count → i < count → list + 4 * i + 4 ≤ length body
 entered-listed i h a = omega (arith, h .listed)
-
--- the ways out of way_of
-pub way-copied : (id ac : ℕ) → id ≡ 0 → Way.Copied ≡ wayOf id ac
-unfolding wayOf
-way-copied id ac h = rw (eq-eqb id 0 h)
-
-pub way-compacted : (id ac : ℕ) → (id ≡ 0 → ⊥) → 2 * id < ac → Way.Compacted ≡ wayOf id ac
-unfolding wayOf
-way-compacted id ac h l = rw (ne-eqb id 0 h, lt-ltb (2 * id) ac l)
-
-pub way-attached : (id ac : ℕ) → (id ≡ 0 → ⊥) → ac ≤ 2 * id → Way.Attached ≡ wayOf id ac
-unfolding wayOf
-way-attached id ac h l = rw (ne-eqb id 0 h, le-ltb (2 * id) ac l)
 
 -- append_views_and_update_buffer_index: none yet, one more, all
 pub put-none : (f : ℕ → View) (slots : List ℕ) (to : ℕ) → slots ≡ viewsPut f slots to 0

@@ -142,7 +142,7 @@ fn carry_view(pool: &mut [u8], books: &[u8], body: &[u8], j: Copying, v: View, f
 {
     let from = source_place(books, body, j, v);
     let to = (j.start as usize) + (filled as usize);
-    pool::carry(pool, from, to, v.length as usize);
+    carrying::carry(pool, from, to, v.length as usize);
 }
 
 // View i of n: as it is where it is inline; else with its bytes behind the `filled` bytes of the block. Answers how many are filled then.

@@ -13,7 +13,7 @@ use Rattle.state.specs.World.{World, world}
 use Rattle.rules.specs.Batch.{Batch}
 use Rattle.rules.specs.Steps.{withLimit}
 use Rattle.rules.specs.Calls.{Answered, Wanted, setUpCall, pushCall, finishCall, dropCall, registerCall, letGoCall, readRow, rowRefusal, bufferNumberCall, bufferCall, limitOf, bufferedCount, hasCompleted, isEmpty}
-use Rattle.codes.specs.Code.{codeOf, limitIn, decoded}
+use Rattle.codes.specs.Code.{stateBytes, codeOf, limitIn, decoded}
 use Rattle.crossing.specs.Cross.{pair, numberIn, limitPair, rowBytes, wordsFrom}
 
 -- ---- what is said
@@ -129,13 +129,13 @@ askedFor target rows queue lists numbers kinds pool =
 
 -- what the layer itself tests before it asks: lengths that 01's set-up has no number for
 unfoldable pub askable : ℕ → ℕ → ℕ → Bool
-askable state kinds pool = eqb state 304 && (leb kinds 64 && (eqb (kinds % 4) 0 && leb pool 4294967295))
+askable state kinds pool = eqb state stateBytes && (leb kinds 64 && (eqb (kinds % 4) 0 && leb pool 4294967295))
 
 -- 01: "Set-up empties state and books, sets no limit, and changes no slot or pool byte."; 1: "set-up outside its bounds, or lent memory not of the
 -- set-up lengths"
 unfoldable pub created : Wanted → List ℕ → Memory → Said
 created a kinds m =
-    cond (eqb (length (m .state)) 304 && eqb (length kinds % 4) 0)
+    cond (eqb (length (m .state)) stateBytes && eqb (length kinds % 4) 0)
     (coded number (m .state) (given (setUpCall a (m .slots) (m .pool) (m .books))))
     (said 1 m)
 

@@ -26,10 +26,10 @@ use Rattle.rules.specs.RegisterLaws.{register-tested, register-steps, let-go-te
 use Rattle.rules.specs.declared.Step.{Step}
 use Rattle.completed.specs.declared.Dropped.{Dropped}
 use Rattle.completed.specs.Drop.{Drops}
-use Rattle.reads.specs.Reads.{RegistersCall, LetsGoCall}
+use Rattle.buffers.specs.Buffers.{RegistersCall, LetsGoCall}
 use Rattle.finishing.specs.Finish.{answered}
 use Rattle.codes.specs.declared.Coded.{Coded}
-use Rattle.codes.specs.Code.{codeOf, limitIn, isCoded, stateIn, decoded}
+use Rattle.codes.specs.Code.{stateBytes, codeOf, limitIn, isCoded, stateIn, decoded}
 use Rattle.codes.specs.TakeLaws.{code-state}
 use Rattle.crossing.specs.Cross.{pair, numberIn, limitPair, rowBytes}
 use Rattle.capi.specs.Api.{Memory, memory, said, told, Form, number, both, inForm, Given, given, pushing, finishing, dropping, registering, lettingGo, worldIn, keptAs, KeepsState, coded, called}
@@ -50,19 +50,19 @@ module _ (b : List ℕ) {d : Coded} (e : d ≡ decoded b) (z : d .number ≡ 0) 
   zero-is = sym (ap (λ (x : Coded). x .number) e) ∙ z
 
   -- 304 bytes that code its state
-  codes-304 : (x y : Bool) → eqb (length b) 304 ≡ x → isCoded b ≡ y → length b ≡ 304
+  codes-bytes : (x y : Bool) → eqb (length b) stateBytes ≡ x → isCoded b ≡ y → length b ≡ stateBytes
   unfolding decoded
-  codes-304 true y p q = eqb-true (length b) 304 p
-  codes-304 false y p q = let r : _≡_ {A = ℕ} 1 0 = rw p at zero-is in absurd (omega arith)
+  codes-bytes true y p q = eqb-true (length b) stateBytes p
+  codes-bytes false y p q = let r : _≡_ {A = ℕ} 1 0 = rw p at zero-is in absurd (omega arith)
 
-  pub decoded-length : length b ≡ 304
-  decoded-length = codes-304 (eqb (length b) 304) (isCoded b) refl refl
+  pub decoded-length : length b ≡ stateBytes
+  decoded-length = codes-bytes (eqb (length b) stateBytes) (isCoded b) refl refl
 
   codes-it : (y : Bool) → isCoded b ≡ y → (isCoded b ≡ true) × (d .state ≡ stateIn b)
   unfolding decoded
-  codes-it true q = (q, ap (λ (x : Coded). x .state) e ∙ rw (eq-eqb (length b) 304 decoded-length, q))
+  codes-it true q = (q, ap (λ (x : Coded). x .state) e ∙ rw (eq-eqb (length b) stateBytes decoded-length, q))
   codes-it false q =
-      let r : _≡_ {A = ℕ} 14 0 = rw (eq-eqb (length b) 304 decoded-length, q) at zero-is in absurd (omega arith)
+      let r : _≡_ {A = ℕ} 14 0 = rw (eq-eqb (length b) stateBytes decoded-length, q) at zero-is in absurd (omega arith)
 
   pub decoded-code : Bytes b → codeOf (d .state) ≡ b
   decoded-code is =

@@ -18,6 +18,7 @@ use Rattle.rules.specs.CallLaws.{set-up-done, set-up-not}
 use Rattle.push_safety.specs.TestedLaws.{bounds-say}
 use Rattle.rules.specs.declared.Step.{Step}
 use Rattle.set_up.specs.SetUp.{padded, wantedOf, SetsUp}
+use Rattle.codes.specs.Code.{stateBytes}
 use Rattle.crossing.specs.Cross.{kindsTo, wordsFrom}
 use Rattle.crossing.specs.CrossLaws.{kinds-at}
 use Rattle.capi.specs.Api.{memory, said, number, given, keptAs, KeepsState, coded, askedFor, askable, created}
@@ -25,25 +26,25 @@ use Rattle.capi.specs.Api.{memory, said, number, given, keptAs, KeepsSta
 -- ---- is_askable
 
 module _ (state kinds pool : ℕ) where
-  pub ask-state : (state ≡ 304 → ⊥) → false ≡ askable state kinds pool
+  pub ask-state : (state ≡ stateBytes → ⊥) → false ≡ askable state kinds pool
   unfolding askable
-  ask-state h = rw (ne-eqb state 304 h)
+  ask-state h = rw (ne-eqb state stateBytes h)
 
-  pub ask-kinds : state ≡ 304 → 64 < kinds → false ≡ askable state kinds pool
+  pub ask-kinds : state ≡ stateBytes → 64 < kinds → false ≡ askable state kinds pool
   unfolding askable
-  ask-kinds p h = rw (eq-eqb state 304 p, lt-leb kinds 64 h)
+  ask-kinds p h = rw (eq-eqb state stateBytes p, lt-leb kinds 64 h)
 
-  pub ask-words : state ≡ 304 → kinds ≤ 64 → (kinds % 4 ≡ 0 → ⊥) → false ≡ askable state kinds pool
+  pub ask-words : state ≡ stateBytes → kinds ≤ 64 → (kinds % 4 ≡ 0 → ⊥) → false ≡ askable state kinds pool
   unfolding askable
-  ask-words p q h = rw (eq-eqb state 304 p, le-leb kinds 64 q, ne-eqb (kinds % 4) 0 h)
+  ask-words p q h = rw (eq-eqb state stateBytes p, le-leb kinds 64 q, ne-eqb (kinds % 4) 0 h)
 
-  pub ask-pool : state ≡ 304 → kinds ≤ 64 → kinds % 4 ≡ 0 → leb pool 4294967295 ≡ askable state kinds pool
+  pub ask-pool : state ≡ stateBytes → kinds ≤ 64 → kinds % 4 ≡ 0 → leb pool 4294967295 ≡ askable state kinds pool
   unfolding askable
-  ask-pool p q h = rw (eq-eqb state 304 p, le-leb kinds 64 q, eq-eqb (kinds % 4) 0 h)
+  ask-pool p q h = rw (eq-eqb state stateBytes p, le-leb kinds 64 q, eq-eqb (kinds % 4) 0 h)
 
   -- what it says
   pub record Askable : Type 0 where
-    pub state-is : state ≡ 304
+    pub state-is : state ≡ stateBytes
     pub kinds-few : kinds ≤ 64
     pub whole-words : kinds % 4 ≡ 0
     pub pool-small : pool ≤ 4294967295
@@ -51,18 +52,18 @@ module _ (state kinds pool : ℕ) where
   pub asks : {x : Bool} → x ≡ askable state kinds pool → x ≡ true → Askable
   unfolding askable
   asks p q =
-      let a = and-eq-true-iff (eqb state 304) (leb kinds 64 && (eqb (kinds % 4) 0 && leb pool 4294967295)) .0 (sym p ∙ q) in
+      let a = and-eq-true-iff (eqb state stateBytes) (leb kinds 64 && (eqb (kinds % 4) 0 && leb pool 4294967295)) .0 (sym p ∙ q) in
       let b = and-eq-true-iff (leb kinds 64) (eqb (kinds % 4) 0 && leb pool 4294967295) .0 (a .1) in
       let c = and-eq-true-iff (eqb (kinds % 4) 0) (leb pool 4294967295) .0 (b .1) in
       record {
-        state-is = eqb-true state 304 (a .0);
+        state-is = eqb-true state stateBytes (a .0);
         kinds-few = leb-true kinds 64 (b .0);
         whole-words = eqb-true (kinds % 4) 0 (c .0);
         pool-small = leb-true pool 4294967295 (c .1);
       }
 
-  pub asks-304 : {x : Bool} → x ≡ askable state kinds pool → x ≡ true → state ≡ 304
-  asks-304 p q = asks p q .state-is
+  pub asks-bytes : {x : Bool} → x ≡ askable state kinds pool → x ≡ true → state ≡ stateBytes
+  asks-bytes p q = asks p q .state-is
 
   pub asks-few : {x : Bool} → x ≡ askable state kinds pool → x ≡ true → kinds ≤ 64
   asks-few p q = asks p q .kinds-few
@@ -123,9 +124,9 @@ module _ (b slots pool books kinds : List ℕ) (target rows queue lists numbers 
   abbrev a : Wanted
   a = askedFor target rows queue lists numbers kinds (length pool)
 
-  made : length b ≡ 304 → length kinds % 4 ≡ 0 → coded number b (given (setUpCall a slots pool books)) ≡ created a kinds (memory b slots pool books)
+  made : length b ≡ stateBytes → length kinds % 4 ≡ 0 → coded number b (given (setUpCall a slots pool books)) ≡ created a kinds (memory b slots pool books)
   unfolding created
-  made p q = rw (eq-eqb (length b) 304 p, eq-eqb (length kinds % 4) 0 q)
+  made p q = rw (eq-eqb (length b) stateBytes p, eq-eqb (length kinds % 4) 0 q)
 
   refused-by : fitsSetUp (world (newState a) slots pool books) ≡ false → said 1 (memory b slots pool books) ≡ coded number b (given (setUpCall a slots pool books))
   unfolding coded
@@ -134,18 +135,18 @@ module _ (b slots pool books kinds : List ℕ) (target rows queue lists numbers 
   module _ {x : Bool} (e : x ≡ askable (length b) (length kinds) (length pool)) where
     pub new-refused : x ≡ false → said 1 (memory b slots pool books) ≡ created (askedFor target rows queue lists numbers kinds (length pool)) kinds (memory b slots pool books)
     unfolding created
-    new-refused f = go (ℕ-discrete (length b) 304) (ℕ-discrete (length kinds % 4) 0)
+    new-refused f = go (ℕ-discrete (length b) stateBytes) (ℕ-discrete (length kinds % 4) 0)
       where
-        out : length b ≡ 304 → length kinds % 4 ≡ 0 → length (wordsFrom kinds 0 (length kinds / 4)) ≤ 16 → length pool ≤ 4294967295 → ⊥
+        out : length b ≡ stateBytes → length kinds % 4 ≡ 0 → length (wordsFrom kinds 0 (length kinds / 4)) ≤ 16 → length pool ≤ 4294967295 → ⊥
         out p q l m =
             true≢false
             (ap (λ (y : Bool). y) (sym (le-leb (length pool) 4294967295 m))
             ∙ ask-pool (length b) (length kinds) (length pool) p (omega (arith, length-words kinds 0 (length kinds / 4))) q
             ∙ sym e ∙ f)
 
-        go : Dec (length b ≡ 304) → Dec (length kinds % 4 ≡ 0) → said 1 (memory b slots pool books) ≡ created a kinds (memory b slots pool books)
-        go (no p) d = rw (ne-eqb (length b) 304 p)
-        go (yes p) (no q) = rw (eq-eqb (length b) 304 p, ne-eqb (length kinds % 4) 0 q)
+        go : Dec (length b ≡ stateBytes) → Dec (length kinds % 4 ≡ 0) → said 1 (memory b slots pool books) ≡ created a kinds (memory b slots pool books)
+        go (no p) d = rw (ne-eqb (length b) stateBytes p)
+        go (yes p) (no q) = rw (eq-eqb (length b) stateBytes p, ne-eqb (length kinds % 4) 0 q)
         go (yes p) (yes q) = refused-by (fits-not a slots pool books (out p q)) ∙ made p q
 
     module _ (t : x ≡ true) {k : List ℕ} (ks : k ≡ kindsTo kinds (length kinds / 4)) where

@@ -4,6 +4,7 @@
 ghost use mathlib.Core.Path.{_≡_};
 ghost use lib.ListN.{length};
 ghost use Rattle.rules.specs.Batch.{batch};
+ghost use Rattle.codes.specs.Code.{stateBytes};
 ghost use Rattle.capi.specs.Api.{memory, said, told, number, both, finishing, dropping, registering, lettingGo, KeepsState, called, askedFor, askable, created};
 ghost use Rattle.capi.specs.HandsOn.{HandsOn};
 ghost use Rattle.capi.specs.Api.{bufferNumber, bufferRead, rowIn, rowRead, limitSet, limitRead, rowsBuffered, completedFlag, emptyFlag};
@@ -16,11 +17,11 @@ use state::RowAnswer;
 
 // The state coded where the number of a refusal is 0; hands on that number.
 fn keep(state: &mut [u8], refusal: u32, s: BatchCoalescer) -> u32
-    requires { ⌜ length (now state) ≡ 304 ⌝ }
+    requires { ⌜ length (now state) ≡ stateBytes ⌝ }
     ensures { λ r. ⌜ KeepsState refusal s (now (state .entry)) (now (state .exit)) r ⌝ }
 {
     if refusal == 0 {
-        codes::encode(state, s);
+        encoding::encode(state, s);
         0
     } else {
         refusal
@@ -31,7 +32,7 @@ fn keep(state: &mut [u8], refusal: u32, s: BatchCoalescer) -> u32
 fn is_askable(state: usize, kinds: usize, pool: usize) -> bool
     ensures { λ r. ⌜ r ≡ askable state kinds pool ⌝ }
 {
-    if state == 304 {
+    if state == codes::STATE_BYTES {
         if kinds <= 64 {
             if kinds % 4 == 0 {
                 pool <= 4294967295
@@ -95,7 +96,7 @@ pub extern "C" fn pw_push_batch(
     ensures { λ r. ⌜ HandsOn (memory (now (state .entry)) (now (slots .entry)) (now (pool .entry)) (now (books .entry))) (batch rows (now (records .entry)) (now (body .entry))) r
         (memory (now (state .exit)) (now (slots .exit)) (now (pool .exit)) (now (books .exit))) ⌝ }
 {
-    let coded = codes::decode(state);
+    let coded = decoding::decode(state);
     if coded.number == 0 {
         let s = coded.state;
         let step = coalesce::push_batch(s, slots, pool, books, records, body, RowCount(rows));
@@ -117,7 +118,7 @@ pub extern "C" fn pw_finish_buffered_batch(
     ensures { λ r. ⌜ said r (memory (now (state .exit)) (now (slots .exit)) (now (pool .entry)) (now (books .exit)))
         ≡ called number finishing (memory (now (state .entry)) (now (slots .entry)) (now (pool .entry)) (now (books .entry))) ⌝ }
 {
-    let coded = codes::decode(state);
+    let coded = decoding::decode(state);
     if coded.number == 0 {
         let s = coded.state;
         let step = coalesce::finish_buffered_batch(s, slots, pool, books);
@@ -139,7 +140,7 @@ pub extern "C" fn pw_next_completed_batch(
     ensures { λ r. ⌜ said r (memory (now (state .exit)) (now (slots .entry)) (now (pool .entry)) (now (books .exit)))
         ≡ called both dropping (memory (now (state .entry)) (now (slots .entry)) (now (pool .entry)) (now (books .entry))) ⌝ }
 {
-    let coded = codes::decode(state);
+    let coded = decoding::decode(state);
     if coded.number == 0 {
         let s = coded.state;
         let dropped = completed::next_completed_batch(s, slots, pool, books);
@@ -164,10 +165,10 @@ pub extern "C" fn pw_register_buffer(
     ensures { λ r. ⌜ said r (memory (now (state .entry)) (now (slots .entry)) (now (pool .exit)) (now (books .exit)))
         ≡ called both (registering (now (bytes .entry)) capacity) (memory (now (state .entry)) (now (slots .entry)) (now (pool .entry)) (now (books .entry))) ⌝ }
 {
-    let coded = codes::decode(state);
+    let coded = decoding::decode(state);
     if coded.number == 0 {
         let s = coded.state;
-        let answer = reads::register_buffer(s, slots, pool, books, bytes, ByteCount(capacity));
+        let answer = buffers::register_buffer(s, slots, pool, books, bytes, ByteCount(capacity));
         crossing::registered_pair(answer)
     } else {
         crossing::both(coded.number, 0)
@@ -186,10 +187,10 @@ pub extern "C" fn pw_let_go(
     ensures { λ r. ⌜ said r (memory (now (state .entry)) (now (slots .entry)) (now (pool .entry)) (now (books .exit)))
         ≡ called number (lettingGo buffer) (memory (now (state .entry)) (now (slots .entry)) (now (pool .entry)) (now (books .entry))) ⌝ }
 {
-    let coded = codes::decode(state);
+    let coded = decoding::decode(state);
     if coded.number == 0 {
         let s = coded.state;
-        reads::let_go(s, slots, pool, books, BufferNumber(buffer))
+        buffers::let_go(s, slots, pool, books, BufferNumber(buffer))
     } else {
         coded.number
     }
@@ -206,10 +207,10 @@ pub extern "C" fn pw_buffer_refusal(
 ) -> u32
     ensures { λ r. ⌜ r ≡ bufferNumber (memory (now (state .entry)) (now (slots .entry)) (now (pool .entry)) (now (books .entry))) buffer ⌝ }
 {
-    let coded = codes::decode(state);
+    let coded = decoding::decode(state);
     if coded.number == 0 {
         let s = coded.state;
-        reads::buffer_refusal(s, slots, pool, books, BufferNumber(buffer))
+        buffers::buffer_refusal(s, slots, pool, books, BufferNumber(buffer))
     } else {
         coded.number
     }
@@ -227,10 +228,10 @@ pub extern "C" fn pw_read_buffer(
 ) -> u64
     ensures { λ r. ⌜ told r (now (out .exit)) ≡ bufferRead (memory (now (state .entry)) (now (slots .entry)) (now (pool .entry)) (now (books .entry))) buffer (now (out .entry)) ⌝ }
 {
-    let coded = codes::decode(state);
+    let coded = decoding::decode(state);
     if coded.number == 0 {
         let s = coded.state;
-        let part = reads::read_buffer(s, slots, pool, books, BufferNumber(buffer));
+        let part = buffers::read_buffer(s, slots, pool, books, BufferNumber(buffer));
         let size = part.len() as u64;
         crossing::copy_front(out, part);
         size
@@ -250,10 +251,10 @@ fn row_answer(
 ) -> RowAnswer
     ensures { λ r. ⌜ r ≡ rowIn (memory (now (state .entry)) (now (slots .entry)) (now (pool .entry)) (now (books .entry))) column row ⌝ }
 {
-    let coded = codes::decode(state);
+    let coded = decoding::decode(state);
     if coded.number == 0 {
         let s = coded.state;
-        reads::read_row(s, slots, pool, books, column, row)
+        rows::read_row(s, slots, pool, books, column, row)
     } else {
         RowAnswer::Refused(coded.number)
     }
@@ -286,10 +287,10 @@ pub extern "C" fn pw_read_row(
 pub extern "C" fn pw_set_biggest_coalesce_batch_size(state: &mut [u8], set: u32, rows: u32) -> u32
     ensures { λ r. ⌜ told r (now (state .exit)) ≡ limitSet set rows (now (state .entry)) ⌝ }
 {
-    let coded = codes::decode(state);
+    let coded = decoding::decode(state);
     if coded.number == 0 {
         let s = coded.state;
-        let limit = codes::limit_of(set, rows);
+        let limit = decoding::limit_of(set, rows);
         let t = queries::set_biggest_coalesce_batch_size(s, limit);
         keep(state, 0, t)
     } else {
@@ -302,7 +303,7 @@ pub extern "C" fn pw_set_biggest_coalesce_batch_size(state: &mut [u8], set: u32,
 pub extern "C" fn pw_biggest_coalesce_batch_size(state: &[u8]) -> u64
     ensures { λ r. ⌜ r ≡ limitRead (now (state .entry)) ⌝ }
 {
-    let coded = codes::decode(state);
+    let coded = decoding::decode(state);
     let s = coded.state;
     crossing::limit_pair(queries::biggest_coalesce_batch_size(s))
 }
@@ -312,7 +313,7 @@ pub extern "C" fn pw_biggest_coalesce_batch_size(state: &[u8]) -> u64
 pub extern "C" fn pw_get_buffered_rows(state: &[u8]) -> u32
     ensures { λ r. ⌜ r ≡ rowsBuffered (now (state .entry)) ⌝ }
 {
-    let coded = codes::decode(state);
+    let coded = decoding::decode(state);
     let s = coded.state;
     queries::get_buffered_rows(s).0
 }
@@ -322,7 +323,7 @@ pub extern "C" fn pw_get_buffered_rows(state: &[u8]) -> u32
 pub extern "C" fn pw_has_completed_batch(state: &[u8]) -> u32
     ensures { λ r. ⌜ r ≡ completedFlag (now (state .entry)) ⌝ }
 {
-    let coded = codes::decode(state);
+    let coded = decoding::decode(state);
     let s = coded.state;
     crossing::flag(queries::has_completed_batch(s))
 }
@@ -332,7 +333,7 @@ pub extern "C" fn pw_has_completed_batch(state: &[u8]) -> u32
 pub extern "C" fn pw_is_empty(state: &[u8]) -> u32
     ensures { λ r. ⌜ r ≡ emptyFlag (now (state .entry)) ⌝ }
 {
-    let coded = codes::decode(state);
+    let coded = decoding::decode(state);
     let s = coded.state;
     crossing::flag(queries::is_empty(s))
 }

@@ -14,6 +14,13 @@ use Rattle.state.specs.declared.OpenBlock.{OpenBlock}
 use Rattle.state.specs.World.{noColumn, columnOf}
 use Rattle.codes.specs.declared.Coded.{Coded}
 
+-- the bytes of a coded state, and where its columns begin: 12 words, then four for each of 16 columns
+abbrev pub stateBytes : ℕ
+stateBytes = 304
+
+abbrev pub columnsAt : ℕ
+columnsAt = 48
+
 -- ---- a state as bytes
 
 -- a limit and an open block as two words: a flag, and the number or 0
@@ -103,7 +110,7 @@ blockIn flag word = cond (eqb flag 0) OpenBlock.Closed (OpenBlock.Number (record
 
 -- column c, and the first n columns
 abbrev pub columnPlace : ℕ → ℕ
-columnPlace c = 48 + 16 * c
+columnPlace c = columnsAt + 16 * c
 
 unfoldable pub columnIn : List ℕ → ℕ → Column
 columnIn b c =
@@ -162,9 +169,9 @@ zeroState =
       column = replicate 16 noColumn;
     }
 
--- 1 where the bytes are not 304, 14 where they code no state
+-- 1 where the bytes are not so many, 14 where they code no state
 unfoldable pub decoded : List ℕ → Coded
 decoded b =
-    cond (eqb (length b) 304)
+    cond (eqb (length b) stateBytes)
     (cond (isCoded b) (record { number = 0; state = stateIn b }) (record { number = 14; state = zeroState }))
     (record { number = 1; state = zeroState })

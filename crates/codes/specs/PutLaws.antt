@@ -15,6 +15,8 @@ use Rattle.counts.specs.declared.RowCount.{RowCount}
 use Rattle.counts.specs.declared.BufferNumber.{BufferNumber}
 use Rattle.state.specs.World.{noColumn, columnOf}
 use Rattle.codes.specs.Code.{
+  stateBytes,
+  columnsAt,
   bytesOf,
   limitFlag,
   limitNumber,
@@ -110,29 +112,29 @@ unfolding blockWords blockFlag blockNumber
 block-put-closed o x p h e = rw h e
 
 -- columns, one after another: none yet, one more, all
-pub columns-put-none : (b : List ℕ) (s : BatchCoalescer) → take (48 + 16 * 0) b ≡ take 48 b ++ bytesOf (columnsWords s 0)
+pub columns-put-none : (b : List ℕ) (s : BatchCoalescer) → take (columnsAt + 16 * 0) b ≡ take columnsAt b ++ bytesOf (columnsWords s 0)
 unfolding bytesOf columnsWords
-columns-put-none b s = sym (append-nil (take 48 b))
+columns-put-none b s = sym (append-nil (take columnsAt b))
 
-pub columns-put-more : (b : List ℕ) (s : BatchCoalescer) (t u : List ℕ) (c : ℕ) → take (48 + 16 * c) t ≡ take 48 b ++ bytesOf (columnsWords s c) → take (48 + 16 * c + 16) u ≡ take (48 + 16 * c) t ++ bytesOf (columnWords (getD (s .column) c noColumn)) → take (48 + 16 * (c + 1)) u ≡ take 48 b ++ bytesOf (columnsWords s (c + 1))
+pub columns-put-more : (b : List ℕ) (s : BatchCoalescer) (t u : List ℕ) (c : ℕ) → take (columnsAt + 16 * c) t ≡ take columnsAt b ++ bytesOf (columnsWords s c) → take (columnsAt + 16 * c + 16) u ≡ take (columnsAt + 16 * c) t ++ bytesOf (columnWords (getD (s .column) c noColumn)) → take (columnsAt + 16 * (c + 1)) u ≡ take columnsAt b ++ bytesOf (columnsWords s (c + 1))
 unfolding columnsWords columnOf
 columns-put-more b s t u c e f =
-    let n : 48 + 16 * (c + 1) ≡ 48 + 16 * c + 16 = omega arith in
+    let n : columnsAt + 16 * (c + 1) ≡ columnsAt + 16 * c + 16 = omega arith in
     let m : c + 1 ≡ suc c = omega arith in
     rw (n, m)
-    (words-behind (take (48 + 16 * c + 16) u) (take (48 + 16 * c) t) (take 48 b) (columnsWords s c) (columnWords (getD (s .column) c noColumn)) f e)
+    (words-behind (take (columnsAt + 16 * c + 16) u) (take (columnsAt + 16 * c) t) (take columnsAt b) (columnsWords s c) (columnWords (getD (s .column) c noColumn)) f e)
 
-pub columns-put-all : (b : List ℕ) (s : BatchCoalescer) {t : List ℕ} (c : ℕ) → take (48 + 16 * c) t ≡ take 48 b ++ bytesOf (columnsWords s c) → length t ≡ length b → length b ≡ 304 → c ≤ 16 → 16 ≤ c → t ≡ take 48 b ++ bytesOf (columnsWords s 16)
+pub columns-put-all : (b : List ℕ) (s : BatchCoalescer) {t : List ℕ} (c : ℕ) → take (columnsAt + 16 * c) t ≡ take columnsAt b ++ bytesOf (columnsWords s c) → length t ≡ length b → length b ≡ stateBytes → c ≤ 16 → 16 ≤ c → t ≡ take columnsAt b ++ bytesOf (columnsWords s 16)
 columns-put-all b s {t} c e l h m n =
     let q : c ≡ 16 = omega arith in
-    let e′ : take 304 t ≡ take 48 b ++ bytesOf (columnsWords s 16) = rw q at e in
-    sym (take-all 304 t (omega arith)) ∙ e′
+    let e′ : take stateBytes t ≡ take columnsAt b ++ bytesOf (columnsWords s 16) = rw q at e in
+    sym (take-all stateBytes t (omega arith)) ∙ e′
 
 -- the four parts of a state
 pub parts : (a b c d : List ℕ) → bytesOf (a ++ b ++ c ++ d) ≡ bytesOf a ++ bytesOf b ++ bytesOf c ++ bytesOf d
 parts a b c d = rw (bytes-append (a ++ b ++ c) d, bytes-append (a ++ b) c, bytes-append a b)
 
-pub state-put : (s : BatchCoalescer) (t u v : List ℕ) {r : List ℕ} → take 28 t ≡ bytesOf (setUpWords s) → take 36 u ≡ take 28 t ++ bytesOf (limitWords (s .limit)) → take 48 v ≡ take 36 u ++ bytesOf (countWords s) → r ≡ take 48 v ++ bytesOf (columnsWords s 16) → r ≡ codeOf s
+pub state-put : (s : BatchCoalescer) (t u v : List ℕ) {r : List ℕ} → take 28 t ≡ bytesOf (setUpWords s) → take 36 u ≡ take 28 t ++ bytesOf (limitWords (s .limit)) → take columnsAt v ≡ take 36 u ++ bytesOf (countWords s) → r ≡ take columnsAt v ++ bytesOf (columnsWords s 16) → r ≡ codeOf s
 unfolding codeOf wordsOf
 state-put s t u v e f g h =
     h

@@ -19,6 +19,7 @@ use Rattle.state.specs.declared.OpenBlock.{OpenBlock}
 use Rattle.state.specs.World.{noColumn, columnOf}
 use Rattle.codes.specs.TakeLaws.{length-columnsIn, getD-columnsIn}
 use Rattle.codes.specs.Code.{
+  stateBytes,
   bytesOf,
   limitFlag,
   limitNumber,
@@ -111,7 +112,7 @@ pub length-wordsOf : (s : BatchCoalescer) → length (wordsOf s) ≡ 76
 unfolding wordsOf setUpWords limitWords countWords
 length-wordsOf s = omega (arith, length-columnsWords s 16)
 
-pub length-codeOf : (s : BatchCoalescer) → length (codeOf s) ≡ 304
+pub length-codeOf : (s : BatchCoalescer) → length (codeOf s) ≡ stateBytes
 unfolding codeOf
 length-codeOf s = length-bytesOf (wordsOf s) ∙ omega (arith, length-wordsOf s)
 
@@ -220,7 +221,7 @@ code-coded s =
 -- what decode answers of what encode wrote
 pub decoded-code : (s : BatchCoalescer) → Words s → decoded (codeOf s) ≡ record { number = 0; state = s }
 unfolding decoded
-decoded-code s w = rw (eq-eqb (length (codeOf s)) 304 (length-codeOf s), code-coded s, state-code s w)
+decoded-code s w = rw (eq-eqb (length (codeOf s)) stateBytes (length-codeOf s), code-coded s, state-code s w)
 
 -- the state that bytes code has words
 limit-number : (f w : ℕ) → w < 2 ^ 32 → limitNumber (limitIn f w) < 2 ^ 32

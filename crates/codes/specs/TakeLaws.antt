@@ -17,6 +17,8 @@ use Rattle.state.specs.declared.Limit.{Limit}
 use Rattle.state.specs.declared.OpenBlock.{OpenBlock}
 use Rattle.state.specs.World.{noColumn}
 use Rattle.codes.specs.Code.{
+  stateBytes,
+  columnsAt,
   bytesOf,
   limitFlag,
   limitNumber,
@@ -138,7 +140,7 @@ columnOf-get : (b : List ℕ) (c : ℕ) → c < 16 → getD (stateIn b .column) 
 unfolding stateIn
 columnOf-get b c h = getD-columnsIn b 16 c h
 
-module _ (b : List ℕ) (is : Bytes b) (len : length b ≡ 304) where
+module _ (b : List ℕ) (is : Bytes b) (len : length b ≡ stateBytes) where
   column-take : (c : ℕ) → c < 16 → isColumnCoded b c ≡ true → take (columnPlace c + 16) b ≡ take (columnPlace c) b ++ bytesOf (columnWords (columnIn b c))
   unfolding columnIn isColumnCoded
   column-take c h k =
@@ -149,7 +151,7 @@ module _ (b : List ℕ) (is : Bytes b) (len : length b ≡ 304) where
       (ap (λ (i : ℕ). word32 b (columnPlace c + 8) ∷ word32 b i ∷ []) n
       ∙ sym (block-back (word32 b (columnPlace c + 8)) (word32 b (columnPlace c + 12)) k)))
 
-  columns-take : ((c : ℕ) → c < 16 → isColumnCoded b c ≡ true) → (n : ℕ) → n ≤ 16 → take (48 + 16 * n) b ≡ take 48 b ++ bytesOf (columnsWords (stateIn b) n)
+  columns-take : ((c : ℕ) → c < 16 → isColumnCoded b c ≡ true) → (n : ℕ) → n ≤ 16 → take (columnsAt + 16 * n) b ≡ take columnsAt b ++ bytesOf (columnsWords (stateIn b) n)
   columns-take k zero h = columns-put-none b (stateIn b)
   columns-take k (suc n) h = go (columns-take k n)
     where
@@ -159,7 +161,7 @@ module _ (b : List ℕ) (is : Bytes b) (len : length b ≡ 304) where
       d : columnIn b n ≡ getD (stateIn b .column) n noColumn
       d = sym (columnOf-get b n (omega arith))
 
-      go : (n ≤ 16 → take (48 + 16 * n) b ≡ take 48 b ++ bytesOf (columnsWords (stateIn b) n)) → take (48 + 16 * suc n) b ≡ take 48 b ++ bytesOf (columnsWords (stateIn b) (suc n))
+      go : (n ≤ 16 → take (columnsAt + 16 * n) b ≡ take columnsAt b ++ bytesOf (columnsWords (stateIn b) n)) → take (columnsAt + 16 * suc n) b ≡ take columnsAt b ++ bytesOf (columnsWords (stateIn b) (suc n))
       go r =
           rw m
           (columns-put-more b (stateIn b) b b n (r (omega arith))
@@ -175,4 +177,4 @@ module _ (b : List ℕ) (is : Bytes b) (len : length b ≡ 304) where
       (set-up-put (stateIn b) b b b b (two-take b is 0 (omega arith)) (two-take b is 8 (omega arith)) (three-take b is 16 (omega arith)))
       (two-take b is 28 (omega arith) ∙ ap (λ (ws : List ℕ). take 28 b ++ bytesOf ws) (sym (limit-back (word32 b 28) (word32 b 32) (p .0))))
       (three-take b is 36 (omega arith))
-      (sym (take-all 304 b (omega arith)) ∙ columns-take (every-says (isColumnCoded b) 16 (p .1)) 16 (omega arith)))
+      (sym (take-all stateBytes b (omega arith)) ∙ columns-take (every-says (isColumnCoded b) 16 (p .1)) 16 (omega arith)))

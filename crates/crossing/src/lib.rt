@@ -53,8 +53,8 @@ fn put_five(out: &mut [u8], a: u32, b: u32, c: u32, d: u32, e: u32)
     requires { ⌜ length (now out) ≡ 20 ⌝ }
     ensures { λ _. ⌜ now (out .exit) ≡ bytesOf (a ∷ b ∷ c ∷ d ∷ e ∷ []) ⌝ }
 {
-    codes::put_two(out, 0, a, b);
-    codes::put_three(out, 8, c, d, e);
+    encoding::put_two(out, 0, a, b);
+    encoding::put_three(out, 8, c, d, e);
 }
 
 // Where a value is.

@@ -1,4 +1,4 @@
--- Views put one behind the other, and bytes carried one run behind the other: what they read as, and what they leave.
+-- Bytes carried one run behind the other: what they read as, and what they leave.
 use Prim.Native.Nat.{ℕ, zero, suc, _+_, _*_, _≤_, _<_}
 use mathlib.Core.Path.{_≡_, refl, _∙_}
 use mathlib.Core.List.{List}
@@ -8,35 +8,12 @@ use lib.ListN.{length}
 use Rattle.words.specs.Frame.{Agrees, Framed, Apart, under}
 use Rattle.words.specs.FrameLaws.{framed-refl, framed-trans, framed-wider, framed-agrees, agrees-trans, apart-part}
 use Rattle.views.specs.declared.View.{View}
-use Rattle.views.specs.View.{viewOf, withView, longLength}
-use Rattle.views.specs.StoreLaws.{ViewWords, view-framed, view-same, view-other}
+use Rattle.views.specs.View.{longLength}
 use Rattle.pool.specs.Carry.{carried}
 use Rattle.pool.specs.CarryLaws.{carried-framed, carried-agrees}
 use Rattle.rules.specs.Batch.{sumTo}
-use Rattle.rules.specs.Copies.{viewsPut, longTo, bytesCarried}
-use Rattle.rules.specs.CopyLaws.{length-viewsPut, length-bytesCarried}
-
--- ---- views
-
-pub views-framed : (f : ℕ → View) (slots : List ℕ) (to n : ℕ) → Framed to (to + n * 16) slots (viewsPut f slots to n)
-unfolding viewsPut
-views-framed f slots to zero = framed-refl to (to + 0 * 16) slots
-views-framed f slots to (suc n) =
-    framed-trans (framed-wider to (to + suc n * 16) (views-framed f slots to n) (omega arith) (omega arith))
-    (framed-wider to (to + suc n * 16) (view-framed (viewsPut f slots to n) (to + n * 16) (f n)) (omega arith) (omega arith))
-
-pub views-read : (f : ℕ → View) (slots : List ℕ) (to n : ℕ) → to + n * 16 ≤ length slots → ((j : ℕ) → j < n → ViewWords (f j)) → (j : ℕ) → j < n → viewOf (viewsPut f slots to n) (to + j * 16) ≡ f j
-unfolding viewsPut
-views-read f slots to zero h fits j l = absurd (omega arith)
-views-read f slots to (suc n) h fits j l = go (decLt j n) (λ d. views-read f slots to n (omega arith) (λ i k. fits i (omega arith)) j d)
-  where
-    go : Dec (j < n) → (j < n → viewOf (viewsPut f slots to n) (to + j * 16) ≡ f j) → viewOf (withView (viewsPut f slots to n) (to + n * 16) (f n)) (to + j * 16) ≡ f j
-    go (yes d) r = view-other (viewsPut f slots to n) (to + n * 16) (f n) (to + j * 16) (under (omega arith)) ∙ r d
-    go (no d) r =
-        let e : j ≡ n = omega arith in
-        rw e (view-same (viewsPut f slots to n) (to + n * 16) (f n) (omega (arith, length-viewsPut f slots to n)) (fits n (omega arith)))
-
--- ---- bytes
+use Rattle.rules.specs.Copies.{longTo, bytesCarried}
+use Rattle.rules.specs.CopyLaws.{length-bytesCarried}
 
 pub long-next : (f : ℕ → View) (n : ℕ) → longTo f (suc n) ≡ longTo f n + longLength (f n)
 unfolding longTo sumTo

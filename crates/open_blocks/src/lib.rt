@@ -61,7 +61,7 @@ fn open_next(s: BatchCoalescer, books: &mut [u8], c: u32, min: ByteSum) -> Step
     let column = layout::column_of(s, c);
     let source = column.source;
     let next = source.next_size(min);
-    let chosen = room::open_block(books, s.numbers, s.pool.0, next.size);
+    let chosen = making_room::open_block(books, s.numbers, s.pool.0, next.size);
     match chosen {
         Chosen::Refused(number) => Step { state: s, number },
         Chosen::At(r) => {

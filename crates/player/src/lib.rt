@@ -125,7 +125,7 @@ fn play_calls(
 
 // Plays the capture on memories at least as long as it asks for, with room for the second run of a call.
 pub fn play(job: Job, slots: &mut [u8], pool: &mut [u8], books: &mut [u8], second: &mut [u8]) {
-    let mut state = [0u8; 304];
+    let mut state = [0u8; codes::STATE_BYTES];
     let mut first = [0u8; 1024];
     play_calls(job, &mut state, slots, pool, books, &mut first, second);
 }

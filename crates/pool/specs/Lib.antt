@@ -3,6 +3,5 @@ pub mod Register
 pub mod RegisterLaws
 pub mod Read
 pub mod ReadLaws
-pub mod Ready
 pub mod Carry
 pub mod CarryLaws

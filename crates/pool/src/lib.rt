@@ -1,13 +1,11 @@
-// The pool: buffers registered, let go, read, and bytes copied within it; and the books' part of refusal 14.
-// Stands for what the Rust does with `Buffer` and `Vec::extend_from_slice`: 01, "Lent memory".
+// The pool: buffers registered and let go. They are read by `pool_reads`, bytes are copied within it by `carrying`, and 14's part about
+// buffers is `buffer_ranges`.
+// Stands for what the Rust does with `Buffer`: 01, "Lent memory".
 ghost use mathlib.Core.Path.{_≡_};
 ghost use Prim.Native.Nat.{_+_, _*_, _≤_, _<_, _^_};
-ghost use lib.ListN.{length, set};
+ghost use lib.ListN.{length};
 ghost use Rattle.books.specs.Entry.{usedOf};
 ghost use Rattle.pool.specs.Register.{registered, Registers, RegistersAt, letGo, LetsGo};
-ghost use Rattle.pool.specs.Read.{partOf, readRefusal, fitsIn, inRange};
-ghost use Rattle.pool.specs.Ready.{HasEntries, Readied};
-ghost use Rattle.pool.specs.Carry.{carried};
 use books::Entry;
 use counts::BufferNumber;
 use counts::ByteCount;
@@ -53,7 +51,7 @@ pub fn register(
         return Registered::Refused(13);
     }
     let size = pool.len() as u32;
-    let chosen = room::choose(books, n, size, ByteSum(capacity.0 as u64));
+    let chosen = making_room::choose(books, n, size, ByteSum(capacity.0 as u64));
     match chosen {
         Chosen::Refused(number) => Registered::Refused(number),
         Chosen::At(r) => {
@@ -80,127 +78,4 @@ pub fn let_go(books: &mut [u8], number: BufferNumber) -> u32
     }
     listings::release(books, i as usize);
     0
-}
-
-// The number of the refusal of a read of a buffer: 0, or 13 where it isn't there.
-pub fn buffer_refusal(books: &[u8], pool: &[u8], number: BufferNumber) -> u32
-    requires { ⌜ 4 + 20 * usedOf (now books) ≤ length (now books) ⌝ }
-    ensures { λ r. ⌜ r ≡ readRefusal (now (books .entry)) (now (pool .entry)) (number .0) ⌝ }
-{
-    let used = words::get32(books, 0);
-    let i = number.0;
-    if used <= i {
-        return 13;
-    }
-    let e = books::entry_at(books, i as usize);
-    if books::is_free(e) {
-        return 13;
-    }
-    let end = (e.start as usize) + (e.length.0 as usize);
-    if end <= pool.len() { 0 } else { 13 }
-}
-
-// The part of the pool that a buffer fills, and an empty part where the read is refused.
-pub fn buffer_part<'a>(books: &[u8], pool: &'a [u8], number: BufferNumber) -> &'a [u8]
-    requires { ⌜ 4 + 20 * usedOf (now books) ≤ length (now books) ⌝ }
-    ensures { λ r. ⌜ now r ≡ partOf (now (books .entry)) (now (pool .entry)) (number .0) ⌝ }
-{
-    if buffer_refusal(books, pool, number) == 0 {
-        let e = books::entry_at(books, number.0 as usize);
-        let start = e.start as usize;
-        let end = start + (e.length.0 as usize);
-        &pool[start..end]
-    } else {
-        &pool[..0]
-    }
-}
-
-// Whether the entry is in the ranges of 14: within the pool, no longer than its capacity, held or not.
-fn fits_in(e: Entry, pool: u64) -> bool
-    ensures { λ r. ⌜ r ≡ fitsIn pool e ⌝ }
-{
-    if (e.start as u64) + (e.capacity.0 as u64) <= pool {
-        if e.length.0 <= e.capacity.0 {
-            e.hold <= 1
-        } else {
-            false
-        }
-    } else {
-        false
-    }
-}
-
-// 14's part about buffers: whether every buffer in use is in range, and no more numbers are in use than there are.
-pub fn books_in_range(books: &[u8], n: u32, pool: u64) -> bool
-    requires { ⌜ 4 + 20 * n ≤ length (now books) ⌝ }
-    ensures { λ r. ⌜ r ≡ inRange (now (books .entry)) n pool ⌝ }
-{
-    let used = words::get32(books, 0);
-    if n < used {
-        return false;
-    }
-    let mut i: u32 = 0;
-    while i < used {
-        if fits_in(books::entry_at(books, i as usize), pool) {
-            i += 1;
-        } else {
-            return false;
-        }
-    }
-    true
-}
-
-// Whether the books have an entry for each number in use, of which there are at most n.
-pub fn has_entries(books: &[u8], n: u32) -> bool
-    ensures { λ r. ⌜ HasEntries (now (books .entry)) n r ⌝ }
-{
-    if books.len() < 4 + 20 * (n as usize) {
-        false
-    } else {
-        words::get32(books, 0) <= n
-    }
-}
-
-// Whether books and pool are such that every call on them may be made: their lengths, and the ranges of 14.
-pub fn is_ready(books: &[u8], pool: &[u8], n: u32) -> bool
-    ensures { λ r. ⌜ Readied (now (books .entry)) (now (pool .entry)) n r ⌝ }
-{
-    if has_entries(books, n) {
-        if 4294967295 < pool.len() {
-            false
-        } else {
-            books_in_range(books, n, pool.len() as u64)
-        }
-    } else {
-        false
-    }
-}
-
-// The byte b at place i of a lent part.
-fn put(part: &mut [u8], i: usize, b: u8)
-    requires { ⌜ i < length (now part) ⌝ }
-    ensures { λ _. ⌜ now (part .exit) ≡ set (now (part .entry)) i b ⌝ }
-{
-    part[i] = b;
-}
-
-// The byte b at place i of the part of the pool from `to` on, which is lent on.
-fn put_at(pool: &mut [u8], to: usize, i: usize, b: u8)
-    requires { ⌜ to + i < length (now pool) ⌝ }
-    ensures { λ _. ⌜ now (pool .exit) ≡ set (now (pool .entry)) (to + i) b ⌝ }
-{
-    put(&mut pool[to..], i, b);
-}
-
-// The n bytes of the pool from `from` on copied to `to` on, the lowest first: source and target are both in the pool.
-pub fn carry(pool: &mut [u8], from: usize, to: usize, n: usize)
-    requires { ⌜ (from + n ≤ length (now pool)) × (to + n ≤ length (now pool)) ⌝ }
-    ensures { λ _. ⌜ now (pool .exit) ≡ carried (now (pool .entry)) from to n ⌝ }
-{
-    let mut i: usize = 0;
-    while i < n {
-        let b = pool[from + i];
-        put_at(pool, to, i, b);
-        i += 1;
-    }
 }

@@ -35,11 +35,11 @@ pub fn copy_validity(
     let at = p.at as usize;
     let n = p.count as usize;
     if r.validity == records::NO_VALIDITY {
-        bits::append_ones(&mut slots[begin..end], at, n);
+        bit_runs::append_ones(&mut slots[begin..end], at, n);
         return;
     }
     let first = (r.first as usize) + (p.from as usize);
-    bits::append_bits(
+    bit_runs::append_bits(
         &mut slots[begin..end],
         at,
         body,

@@ -15,7 +15,7 @@ use Rattle.finishing.specs.Finish.{answered}
 use Rattle.coalesce.specs.Push.{Pushes}
 use Rattle.completed.specs.declared.Dropped.{Dropped}
 use Rattle.completed.specs.Drop.{Drops}
-use Rattle.reads.specs.Reads.{RegistersCall, LetsGoCall}
+use Rattle.buffers.specs.Buffers.{RegistersCall, LetsGoCall}
 use Rattle.history.specs.Call.{OfBytes, Call, push, finish, drop, register, letGo, limit, read, Did, ifDone, front}
 
 -- a call of the code: the memories that are not lent to be changed are those before it, and the numbers are those that the code answered

@@ -17,7 +17,7 @@ use Rattle.rules.specs.Steps.{inState, withLimit}
 use Rattle.rules.specs.Calls.{Answered, Wanted, setUpCall, pushCall}
 use Rattle.rules.specs.CallLaws.{set-up-zero, set-up-done}
 use Rattle.codes.specs.declared.Coded.{Coded}
-use Rattle.codes.specs.Code.{codeOf, limitIn, decoded}
+use Rattle.codes.specs.Code.{stateBytes, codeOf, limitIn, decoded}
 use Rattle.codes.specs.RoundLaws.{decoded-code, code-words}
 use Rattle.capi.specs.Api.{Memory, memory, Said, said, Told, told, Form, number, both, Given, given, pushing, finishing, dropping, registering, lettingGo, worldIn, coded, called, created, limitSet}
 use Rattle.capi.specs.QuietLaws.{Quiet, pushing-quiet, finishing-quiet, dropping-quiet, registering-quiet, letting-go-quiet}
@@ -108,7 +108,7 @@ sends-hold m (c ∷ cs) {w = w} g h (next {n = n} s is ss) =
 
 created-holds : (a : Wanted) (kinds : List ℕ) (m : Memory) {r : ℕ} {m′ : Memory} → said r m′ ≡ created a kinds m → r ≡ 0 → Bytes (m′ .state) → (setUpCall a (m .slots) (m .pool) (m .books) .number ≡ 0) × HoldsWorld m′ (setUpCall a (m .slots) (m .pool) (m .books) .world)
 unfolding created coded
-created-holds a kinds m {r} {m′} p z is = go (eqb (length (m .state)) 304 && eqb (length kinds % 4) 0) p
+created-holds a kinds m {r} {m′} p z is = go (eqb (length (m .state)) stateBytes && eqb (length kinds % 4) 0) p
   where
     x : Answered
     x = setUpCall a (m .slots) (m .pool) (m .books)

@@ -16,7 +16,7 @@ use Rattle.coalesce.specs.Push.{verdictOf, Orderly, Pushes}
 use Rattle.completed.specs.declared.Dropped.{Dropped}
 use Rattle.completed.specs.Drop.{Drops}
 use Rattle.set_up.specs.SetUp.{SetsUp}
-use Rattle.reads.specs.Reads.{RegistersCall, LetsGoCall}
+use Rattle.buffers.specs.Buffers.{RegistersCall, LetsGoCall}
 use Rattle.codes.specs.Code.{decoded}
 use Rattle.capi.specs.Api.{Memory, Said, said, Told, told, worldIn}
 use Rattle.capi.specs.HandsOn.{HandsOn, hands-orderly, hands-tested}

@@ -190,7 +190,7 @@ fn state_in_range(s: BatchCoalescer, slots: &[u8], books: &[u8]) -> bool
     if s.place <= s.queue {
         (s.buffered.0 < s.target.0)
             & ((s.queued <= s.queue)
-                & (pool::books_in_range(books, s.numbers, s.pool.0 as u64)
+                & (buffer_ranges::books_in_range(books, s.numbers, s.pool.0 as u64)
                     & (columns_in_range(s, books) & slots_in_range(s, slots, books))))
     } else {
         false

@@ -1,4 +1,4 @@
--- Document 01 as definitions, its worked examples over them, and the laws that later proofs cite.
+-- Document 01 as definitions, and the laws that later proofs cite.
 pub mod Batch
 pub mod Checks
 pub mod Ranges
@@ -8,8 +8,6 @@ pub mod Leaves
 pub mod Views
 pub mod Push
 pub mod Calls
-pub mod Scene
-pub mod Worked
 pub mod Held
 pub mod Stays
 pub mod TestLaws
@@ -18,6 +16,7 @@ pub mod ExitLaws
 pub mod CheckLaws
 pub mod StepLaws
 pub mod CopyLaws
+pub mod WayLaws
 pub mod PartLaws
 pub mod PushLaws
 pub mod RegisterLaws

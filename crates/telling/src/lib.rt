@@ -64,7 +64,7 @@ fn put_word(s: &mut [u8], at: usize, v: u32) {
 
 // The rows buffered and the batches queued, behind an answer.
 fn tell_counts(state: &[u8]) {
-    if state.len() == 304 {
+    if state.len() == codes::STATE_BYTES {
         say(b", buffered ", capi::pw_get_buffered_rows(state) as u64);
         say(b", queued ", words::get32(state, 40) as u64);
     }

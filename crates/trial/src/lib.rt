@@ -39,7 +39,7 @@ fn try_buffer(s: BatchCoalescer, books: &mut [u8], c: u32, n: u32, min: ByteSum)
         let source = column.source;
         let next = source.next_size(min);
         let size = next.size;
-        let chosen = room::try_block(books, s.numbers, s.pool.0, size);
+        let chosen = making_room::try_block(books, s.numbers, s.pool.0, size);
         match chosen {
             Chosen::Refused(number) => Step { state: s, number },
             Chosen::At(r) => {
@@ -382,6 +382,6 @@ pub fn room_refusal(
 {
     let used = words::get32(books, 0);
     let lacking = try_push(s, books, records, body, sources, rows);
-    room::end_trial(books, used);
+    trial_end::end_trial(books, used);
     lacking
 }

@@ -1,6 +1,6 @@
 -- `byte_view::way_of` meets its contract.
 use borrow.Author.Needs.{needs}
-use Rattle.byte_view.specs.FoldLaws.{way-copied, way-compacted, way-attached}
+use Rattle.rules.specs.WayLaws.{way-copied, way-compacted, way-attached}
 use Rattle.byte_view.proofs.way_of.Statement.{statement}
 use Rattle.byte_view.proofs.way_of.Tie as tie
 

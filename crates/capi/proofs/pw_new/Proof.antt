@@ -1,5 +1,5 @@
 -- `capi::pw_new` meets its contract.
-use Rattle.capi.specs.NewLaws.{asks-304, asks-few, asks-count, asks-pool, new-said, new-refused}
+use Rattle.capi.specs.NewLaws.{asks-bytes, asks-few, asks-count, asks-pool, new-said, new-refused}
 use borrow.Author.Needs.{needs}
 use Rattle.capi.proofs.pw_new.Statement.{statement}
 use Rattle.capi.proofs.pw_new.Tie as tie
@@ -20,7 +20,7 @@ new-coalescer-requires : tie.Need-new-coalescer-requires
 new-coalescer-requires c κs = search needs
 
 keep-requires : tie.Need-keep-requires
-keep-requires c κs = search (asks-304, needs)
+keep-requires c κs = search (asks-bytes, needs)
 
 same-length : tie.Need-same-length
 same-length c = search needs

@@ -21,6 +21,7 @@ use Rattle.state.specs.Rows.{listedAt, bufferAt, slotCell}
 use Rattle.rules.specs.Batch.{Batch, recordOf, listedNumber, bytesListed, listedBytes, rowView}
 use Rattle.rules.specs.Steps.{inSlots}
 use Rattle.rules.specs.Copies.{viewsPut}
+use Rattle.rules.specs.CopyLaws.{views-framed, views-read}
 use Rattle.rules.specs.Views.{filling, closed, listAttached, viewsRaised, partAttached}
 use Rattle.rules.specs.Held.{Among, one-of, Holds, held, refused, holds-cond}
 use Rattle.rules.specs.Stays.{Beside}
@@ -38,7 +39,6 @@ use Rattle.invariant.specs.SlotLaws.{slots-reach, slots-number}
 use Rattle.invariant.specs.Steps.CopyMoves.{cells-word, cells-still, cells-moves}
 use Rattle.invariant.specs.Steps.Stored.{Stored, stored-extends}
 use Rattle.invariant.specs.Steps.ValueMoves.{cell-add}
-use Rattle.invariant.specs.PutLaws.{views-framed, views-read}
 use Rattle.invariant.specs.Steps.CloseMoves.{closed-moves, closed-still}
 use Rattle.invariant.specs.Steps.AttachMoves.{attached-moves, attached-still, attached-reach, attached-number}
 
