@@ -61,10 +61,10 @@ pub record TriesPart (s : BatchCoalescer) (books : List ℕ) (n : ℕ) (r : Step
   pub tries : Tries s books (r .state) books′
   pub buffered : r .number ≡ 0 → r .state .buffered .0 ≡ s .buffered .0 + n
 
--- a part that is finished: nothing is buffered where it is not refused
-pub record TriesFull (s : BatchCoalescer) (books : List ℕ) (r : Step) (books′ : List ℕ) : Type 0 where
+-- and finishing where the slot is full then: nothing is buffered where the part fills it and is not refused
+pub record TriesThen (s : BatchCoalescer) (books : List ℕ) (n : ℕ) (r : Step) (books′ : List ℕ) : Type 0 where
   pub tries : Tries s books (r .state) books′
-  pub empty : r .number ≡ 0 → r .state .buffered .0 ≡ 0
+  pub empty : s .buffered .0 + n ≡ s .target .0 → r .number ≡ 0 → r .state .buffered .0 ≡ 0
 
 -- finishing: the same, whatever books are beside the state
 pub record TriesFinish (s : BatchCoalescer) (r : Step) : Type 0 where

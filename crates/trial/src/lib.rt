@@ -12,9 +12,9 @@ ghost use Rattle.rules.specs.Batch.{batch};
 ghost use Rattle.columns.specs.Pushing.{Pushing};
 ghost use Rattle.routes.specs.Sourced.{Sourced};
 ghost use Rattle.trial_truth.specs.Like.{Buffers, TellsAttached, TellsCompacted, TellsColumn};
-ghost use Rattle.trial_truth.specs.Tells.{closedAt, closedTo, TellsPart, TellsFinished, TellsFull, TellsLast, TellsRows, TellsFirst, Tells};
+ghost use Rattle.trial_truth.specs.Tells.{closedAt, closedTo, TellsPart, TellsFinished, TellsThen, TellsRows, TellsFirst, Tells};
 ghost use Rattle.trial.specs.Trial.{Restored, Answers};
-ghost use Rattle.trial.specs.Trying.{Unmarked, Trying, Marks, Tries, TriesColumn, TriesPart, TriesFull, TriesFinish, ClosesFirst, Triable, Compactable};
+ghost use Rattle.trial.specs.Trying.{Unmarked, Trying, Marks, TriesColumn, TriesPart, TriesThen, TriesFinish, ClosesFirst, Triable, Compactable};
 use byte_view::Source;
 use counts::ByteSum;
 use counts::RowCount;
@@ -249,8 +249,8 @@ fn try_finish(s: BatchCoalescer) -> Step
     }
 }
 
-// A part that fills the slot, then finishing.
-fn try_full(
+// A part, then finishing if the slot is full.
+fn try_and_finish(
     s: BatchCoalescer,
     books: &mut [u8],
     records: &[u8],
@@ -261,32 +261,8 @@ fn try_full(
 ) -> Step
     requires { ⌜ (Trying s (now books)) × (Triable s sources (batch (from + n) (now records) (now body)))
         × (s .buffered .0 + n ≤ 65536) ⌝ }
-    ensures { λ q. ⌜ (TriesFull s (now (books .entry)) q (now (books .exit)))
-        × (TellsFull s (now (books .entry)) sources (now (records .entry)) (now (body .entry)) from n q (now (books .exit))) ⌝ }
-{
-    let step = try_part(s, books, records, body, sources, from, n);
-    if step.number == 0 {
-        let t = step.state;
-        try_finish(t)
-    } else {
-        step
-    }
-}
-
-// The last part, then finishing if the slot is full.
-fn try_last(
-    s: BatchCoalescer,
-    books: &mut [u8],
-    records: &[u8],
-    body: &[u8],
-    sources: Sources,
-    from: u32,
-    n: u32,
-) -> Step
-    requires { ⌜ (Trying s (now books)) × (Triable s sources (batch (from + n) (now records) (now body)))
-        × (s .buffered .0 + n ≤ 65536) ⌝ }
-    ensures { λ q. ⌜ (Tries s (now (books .entry)) (q .state) (now (books .exit)))
-        × (TellsLast s (now (books .entry)) sources (now (records .entry)) (now (body .entry)) from n q) ⌝ }
+    ensures { λ q. ⌜ (TriesThen s (now (books .entry)) n q (now (books .exit)))
+        × (TellsThen s (now (books .entry)) sources (now (records .entry)) (now (body .entry)) from n q (now (books .exit))) ⌝ }
 {
     let step = try_part(s, books, records, body, sources, from, n);
     if step.number == 0 {
@@ -319,7 +295,7 @@ fn try_rows(
     let mut from: u32 = 0;
     while t.target.0 - t.buffered.0 < rows - from {
         let n = t.target.0 - t.buffered.0;
-        let step = try_full(t, books, records, body, sources, from, n);
+        let step = try_and_finish(t, books, records, body, sources, from, n);
         if step.number == 0 {
             t = step.state;
         } else {
@@ -327,7 +303,7 @@ fn try_rows(
         }
         from += n;
     }
-    try_last(t, books, records, body, sources, from, rows - from).number
+    try_and_finish(t, books, records, body, sources, from, rows - from).number
 }
 
 // Finishing on trial, then queueing whole.
@@ -338,7 +314,7 @@ fn try_first(s: BatchCoalescer, books: &[u8], records: &[u8]) -> u32
     let step = try_finish(s);
     if step.number == 0 {
         let t = step.state;
-        routes::try_whole(t, books, records)
+        whole::try_whole(t, books, records)
     } else {
         step.number
     }
@@ -361,7 +337,7 @@ fn try_push(
     let route = routes::route_of(s, rows);
     match route {
         Route::Coalesce => try_rows(s, books, records, body, sources, rows),
-        Route::Whole => routes::try_whole(s, books, records),
+        Route::Whole => whole::try_whole(s, books, records),
         Route::FinishFirst => try_first(s, books, records),
     }
 }
