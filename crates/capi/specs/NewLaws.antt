@@ -9,7 +9,7 @@ use lib.ListN.{length, getD}
 use lib.Dec.{leb, eqb}
 use mir.Syntax.{w32}
 use mir.Val.{Fits}
-use borrow.Author.Tests.{eq-eqb, ne-eqb, le-leb, lt-leb, eqb-true, leb-true}
+use borrow.Author.Tests.{eq-eqb, ne-eqb, le-leb, eqb-true, leb-true}
 use Rattle.words.specs.Word.{word32}
 use Rattle.state.specs.World.{world}
 use Rattle.rules.specs.Ranges.{inBounds, fitsSetUp}
@@ -18,26 +18,18 @@ use Rattle.rules.specs.CallLaws.{set-up-done, set-up-not}
 use Rattle.push_safety.specs.TestedLaws.{bounds-say}
 use Rattle.rules.specs.declared.Step.{Step}
 use Rattle.set_up.specs.SetUp.{padded, wantedOf, SetsUp}
-use Rattle.crossing.specs.Cross.{kindsTo, wordsFrom}
+use Rattle.crossing.specs.Cross.{keptAs, KeepsState, kindsTo, wordsFrom}
 use Rattle.crossing.specs.CrossLaws.{kinds-at}
-use Rattle.capi.specs.Api.{memory, said, number, given, keptAs, KeepsState, coded, askedFor, askable, created}
+use Rattle.capi.specs.Api.{memory, said, number, given, coded, askedFor, askable, created}
 
 -- ---- is_askable
 
 module _ (state kinds pool : ℕ) where
-  pub ask-state : (state ≡ 304 → ⊥) → false ≡ askable state kinds pool
+  pub asks-all : (eqb state 304 && (leb kinds 64 && (eqb (kinds % 4) 0 && leb pool 4294967295))) ≡ askable state kinds pool
   unfolding askable
-  ask-state h = rw (ne-eqb state 304 h)
+  asks-all = refl
 
-  pub ask-kinds : state ≡ 304 → 64 < kinds → false ≡ askable state kinds pool
-  unfolding askable
-  ask-kinds p h = rw (eq-eqb state 304 p, lt-leb kinds 64 h)
-
-  pub ask-words : state ≡ 304 → kinds ≤ 64 → (kinds % 4 ≡ 0 → ⊥) → false ≡ askable state kinds pool
-  unfolding askable
-  ask-words p q h = rw (eq-eqb state 304 p, le-leb kinds 64 q, ne-eqb (kinds % 4) 0 h)
-
-  pub ask-pool : state ≡ 304 → kinds ≤ 64 → kinds % 4 ≡ 0 → leb pool 4294967295 ≡ askable state kinds pool
+  ask-pool : state ≡ 304 → kinds ≤ 64 → kinds % 4 ≡ 0 → leb pool 4294967295 ≡ askable state kinds pool
   unfolding askable
   ask-pool p q h = rw (eq-eqb state 304 p, le-leb kinds 64 q, eq-eqb (kinds % 4) 0 h)
 

@@ -20,8 +20,9 @@ use Rattle.records.specs.RecordLaws.{record-same}
 use Rattle.push_safety.specs.StepGoes.{buffering-goes}
 use Rattle.routes.specs.declared.Sources.{Sources}
 use Rattle.routes.specs.Sourced.{noSource}
-use Rattle.trial.specs.Trying.{Trying, Marks, Tries, TriesColumn, TriesPart, TriesThen, TriesFinish, Triable, Compactable}
-use Rattle.trial.specs.TryingLaws.{trying-bounds, trying-few, trying-place, trying-length, tries-none, tries-trans}
+use Rattle.trial_column.specs.Trying.{Trying, Marks, Tries, TriesColumn, Compactable}
+use Rattle.trial.specs.Tried.{TriesPart, TriesThen, TriesFinish, Triable}
+use Rattle.trial_column.specs.TryingLaws.{trying-bounds, trying-few, trying-place, trying-length, tries-none, tries-trans}
 
 -- ---- the batch
 

@@ -2,7 +2,7 @@
 use borrow.Author.Needs.{needs}
 use Rattle.trial_truth.specs.CutLaws.{then-follows, then-ends, then-stops}
 use Rattle.trial.specs.PartLaws.{then-done, then-room, then-refused}
-use Rattle.trial.specs.TryingLaws.{trying-bounds, trying-few, trying-place}
+use Rattle.trial_column.specs.TryingLaws.{trying-bounds, trying-few, trying-place}
 use Rattle.trial.proofs.try_and_finish.Statement.{statement}
 use Rattle.trial.proofs.try_and_finish.Tie as tie
 

@@ -8,8 +8,8 @@ use Rattle.rules.specs.Batch.{batch}
 use Rattle.trial_truth.specs.Tells.{TellsCut}
 use Rattle.trial_truth.specs.CutLaws.{cut-first, cut-more, cut-stops, cut-last}
 use Rattle.trial.specs.PartLaws.{triable-full, triable-last, turn-done, turn-below, turn-marks}
-use Rattle.trial.specs.TryingLaws.{trying-bounds, tries-none, tries-length}
-use Rattle.trial.specs.Trying.{Tries}
+use Rattle.trial_column.specs.TryingLaws.{trying-bounds, tries-none, tries-length}
+use Rattle.trial_column.specs.Trying.{Tries}
 use Rattle.trial.proofs.try_rows.Statement.{statement}
 use Rattle.trial.proofs.try_rows.Tie as tie
 

@@ -1,9 +1,9 @@
--- `trial::try_compact` meets its contract.
+-- `trial_column::try_compact` meets its contract.
 use borrow.Author.Needs.{needs}
 use Rattle.trial_truth.specs.TellLaws.{tells-new, tells-fits, tells-walked}
-use Rattle.trial.specs.TryingLaws.{trying-column, trying-list, trying-block, closed-most, trying-roomy, column-none}
-use Rattle.trial.proofs.try_compact.Statement.{statement}
-use Rattle.trial.proofs.try_compact.Tie as tie
+use Rattle.trial_column.specs.TryingLaws.{trying-column, trying-list, trying-block, closed-most, trying-roomy, column-none}
+use Rattle.trial_column.proofs.try_compact.Statement.{statement}
+use Rattle.trial_column.proofs.try_compact.Tie as tie
 
 list-closed-requires : tie.Need-list-closed-requires
 list-closed-requires c κs = trying-list (c .before .before .before .pre .0) (c .before .before .before .pre .1)

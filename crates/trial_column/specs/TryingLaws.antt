@@ -27,7 +27,7 @@ use Rattle.rules.specs.Views.{isOpen}
 use Rattle.push_safety.specs.TestedLaws.{Bounds}
 use Rattle.push_safety.specs.Firm.{run-firm}
 use Rattle.push_safety.specs.CallerLaws.{run-bounds, entries-room, entry-room}
-use Rattle.trial.specs.Trying.{Trying, StillOrMarked, still, marked, Marks, Tries, TriesColumn}
+use Rattle.trial_column.specs.Trying.{Trying, StillOrMarked, still, marked, Marks, Tries, TriesColumn}
 
 -- a state in order whatever slots and pool are beside it is in order beside some
 pub running-trying : {s : BatchCoalescer} {books : List ℕ} → Running s books → Trying s books

@@ -35,8 +35,8 @@ use Rattle.push_safety.specs.StepGoes.{with-column-goes}
 use Rattle.push_safety.specs.OpenGoes.{asked-some}
 use Rattle.push_safety.specs.CallerLaws.{run-bounds}
 use Rattle.trial_truth.specs.Like.{sizeFor, Took, Buffers}
-use Rattle.trial.specs.Trying.{Trying, StillOrMarked, still, marked, Marks, TriesColumn}
-use Rattle.trial.specs.TryingLaws.{column-none}
+use Rattle.trial_column.specs.Trying.{Trying, StillOrMarked, still, marked, Marks, TriesColumn}
+use Rattle.trial_column.specs.TryingLaws.{column-none}
 
 -- ---- the books
 

@@ -1,10 +1,10 @@
--- `coalesce::judge` meets its contract.
+-- `judging::judge` meets its contract.
 use borrow.Author.Needs.{needs}
 use Rattle.ranges.specs.SaysLaws.{says-columns, says-rows}
 use Rattle.byte_view.specs.FoldLaws.{bytes-known}
-use Rattle.coalesce.specs.PushLaws.{judges, says-pooled, judge-refused, judge-nothing, judge-go, judge-fault}
-use Rattle.coalesce.proofs.judge.Statement.{statement}
-use Rattle.coalesce.proofs.judge.Tie as tie
+use Rattle.judging.specs.JudgeLaws.{judges, says-pooled, judge-refused, judge-nothing, judge-go, judge-fault}
+use Rattle.judging.proofs.judge.Statement.{statement}
+use Rattle.judging.proofs.judge.Tie as tie
 
 tested-requires : tie.Need-tested-requires
 tested-requires c κs = search needs

@@ -1,9 +1,9 @@
--- `trial::try_buffer` meets its contract.
+-- `trial_column::try_buffer` meets its contract.
 use borrow.Author.Needs.{needs}
-use Rattle.trial.specs.OpenLaws.{buffer-refused, buffer-opened, buffers-full, buffers-refused, buffers-opened}
-use Rattle.trial.specs.TryingLaws.{trying-column, trying-size, trying-room, column-none}
-use Rattle.trial.proofs.try_buffer.Statement.{statement}
-use Rattle.trial.proofs.try_buffer.Tie as tie
+use Rattle.trial_column.specs.OpenLaws.{buffer-refused, buffer-opened, buffers-full, buffers-refused, buffers-opened}
+use Rattle.trial_column.specs.TryingLaws.{trying-column, trying-size, trying-room, column-none}
+use Rattle.trial_column.proofs.try_buffer.Statement.{statement}
+use Rattle.trial_column.proofs.try_buffer.Tie as tie
 
 column-of-requires : tie.Need-column-of-requires
 column-of-requires c κs = search (trying-column, needs)

@@ -1,8 +1,8 @@
--- `capi::keep` meets its contract.
-use Rattle.capi.specs.ApiLaws.{keeps-coded, keeps-bytes}
+-- `crossing::keep` meets its contract.
+use Rattle.crossing.specs.KeepLaws.{keeps-coded, keeps-bytes}
 use borrow.Author.Needs.{needs}
-use Rattle.capi.proofs.keep.Statement.{statement}
-use Rattle.capi.proofs.keep.Tie as tie
+use Rattle.crossing.proofs.keep.Statement.{statement}
+use Rattle.crossing.proofs.keep.Tie as tie
 
 encode-requires : tie.Need-encode-requires
 encode-requires c κs = search needs

@@ -1,10 +1,10 @@
--- `trial::try_attach` meets its contract.
+-- `trial_column::try_attach` meets its contract.
 use borrow.Author.Needs.{needs}
 use Rattle.trial_truth.specs.TellLaws.{tells-attached, tells-full}
-use Rattle.trial.specs.CloseLaws.{column-shut}
-use Rattle.trial.specs.TryingLaws.{trying-column, trying-list, column-none}
-use Rattle.trial.proofs.try_attach.Statement.{statement}
-use Rattle.trial.proofs.try_attach.Tie as tie
+use Rattle.trial_column.specs.ShutLaws.{column-shut}
+use Rattle.trial_column.specs.TryingLaws.{trying-column, trying-list, column-none}
+use Rattle.trial_column.proofs.try_attach.Statement.{statement}
+use Rattle.trial_column.proofs.try_attach.Tie as tie
 
 list-closed-requires : tie.Need-list-closed-requires
 list-closed-requires c κs = trying-list (c .before .pre .0) (c .before .pre .1)

@@ -1,11 +1,12 @@
--- `coalesce::finish_buffered_batch` meets its contract.
+-- `buffered::finish_buffered_batch` meets its contract.
 use borrow.Author.Needs.{needs}
 use Rattle.ranges.specs.SaysLaws.{says-slots}
 use Rattle.byte_view.specs.FoldLaws.{bytes-known}
 use Rattle.finishing.specs.FinishLaws.{running-closable}
-use Rattle.coalesce.specs.PushLaws.{running, finish-done, finish-stopped}
-use Rattle.coalesce.proofs.finish_buffered_batch.Statement.{statement}
-use Rattle.coalesce.proofs.finish_buffered_batch.Tie as tie
+use Rattle.buffered.specs.RunningLaws.{running}
+use Rattle.buffered.specs.FinishLaws.{finish-done, finish-stopped}
+use Rattle.buffered.proofs.finish_buffered_batch.Statement.{statement}
+use Rattle.buffered.proofs.finish_buffered_batch.Tie as tie
 
 tested-requires : tie.Need-tested-requires
 tested-requires c κs = search needs

@@ -1,9 +1,9 @@
--- `trial::try_column` meets its contract.
+-- `trial_column::try_column` meets its contract.
 use borrow.Author.Needs.{needs}
 use Rattle.trial_truth.specs.TellLaws.{tells-copied, tells-attaches, tells-compacts}
-use Rattle.trial.specs.TryingLaws.{column-none}
-use Rattle.trial.proofs.try_column.Statement.{statement}
-use Rattle.trial.proofs.try_column.Tie as tie
+use Rattle.trial_column.specs.TryingLaws.{column-none}
+use Rattle.trial_column.proofs.try_column.Statement.{statement}
+use Rattle.trial_column.proofs.try_column.Tie as tie
 
 enum-told : tie.Need-enum-told
 enum-told c = search needs
