@@ -1,20 +1,18 @@
 -- What each call of the C layer answers, and the bytes of every memory after it: docs/HOST.md, "Functions".
 use Prim.Native.Nat.{ℕ, _/_, _%_}
-use mathlib.Core.Path.{_≡_}
 use mathlib.Core.Bool.{Bool, _&&_, cond}
 use mathlib.Core.List.{List, []}
 use lib.ListN.{length}
 use lib.Dec.{leb, eqb}
 use Rattle.words.specs.Run.{lay}
 use Rattle.pool.specs.Register.{refusalOf}
-use Rattle.state.specs.declared.BatchCoalescer.{BatchCoalescer}
 use Rattle.state.specs.declared.RowAnswer.{RowAnswer}
 use Rattle.state.specs.World.{World, world}
 use Rattle.rules.specs.Batch.{Batch}
 use Rattle.rules.specs.Steps.{withLimit}
 use Rattle.rules.specs.Calls.{Answered, Wanted, setUpCall, pushCall, finishCall, dropCall, registerCall, letGoCall, readRow, rowRefusal, bufferNumberCall, bufferCall, limitOf, bufferedCount, hasCompleted, isEmpty}
 use Rattle.codes.specs.Code.{stateBytes, codeOf, limitIn, decoded}
-use Rattle.crossing.specs.Cross.{pair, numberIn, limitPair, rowBytes, wordsFrom}
+use Rattle.crossing.specs.Cross.{keptAs, pair, numberIn, limitPair, rowBytes, wordsFrom}
 
 -- ---- what is said
 
@@ -93,15 +91,6 @@ lettingGo i w = given (letGoCall w i)
 -- the world that bytes hold
 abbrev pub worldIn : Memory → World
 worldIn m = world (decoded (m .state) .state) (m .slots) (m .pool) (m .books)
-
--- the state is coded anew, and a refusal leaves its bytes
-abbrev pub keptAs : ℕ → BatchCoalescer → List ℕ → List ℕ
-keptAs n s b = cond (eqb n 0) (codeOf s) b
-
--- what keeping a state leaves: the number handed on, and the bytes
-pub record KeepsState (n : ℕ) (s : BatchCoalescer) (b b′ : List ℕ) (r : ℕ) : Type 0 where
-  pub answer-is : r ≡ n
-  pub bytes-are : b′ ≡ keptAs n s b
 
 -- an answer in its form, with the state coded anew where the call was not refused. 01: "Each returns its number .. and changes nothing"
 unfoldable pub coded : Form → List ℕ → Given → Said

@@ -31,17 +31,9 @@ use Rattle.finishing.specs.Finish.{answered}
 use Rattle.codes.specs.declared.Coded.{Coded}
 use Rattle.codes.specs.Code.{stateBytes, codeOf, limitIn, isCoded, stateIn, decoded}
 use Rattle.codes.specs.TakeLaws.{code-state}
-use Rattle.crossing.specs.Cross.{pair, numberIn, limitPair, rowBytes}
-use Rattle.capi.specs.Api.{Memory, memory, said, told, Form, number, both, inForm, Given, given, pushing, finishing, dropping, registering, lettingGo, worldIn, keptAs, KeepsState, coded, called}
+use Rattle.crossing.specs.Cross.{keptAs, KeepsState, pair, numberIn, limitPair, rowBytes}
+use Rattle.capi.specs.Api.{Memory, memory, said, told, Form, number, both, inForm, Given, given, pushing, finishing, dropping, registering, lettingGo, worldIn, coded, called}
 use Rattle.capi.specs.Api.{bufferNumber, partIn, bufferRead, rowIn, rowRead, limitSet, limitRead, rowsBuffered, completedFlag, emptyFlag}
-
--- ---- keep
-
-pub keeps-coded : {s : BatchCoalescer} {b b′ : List ℕ} {n : ℕ} → n ≡ 0 → b′ ≡ codeOf s → KeepsState n s b b′ 0
-keeps-coded {s} {b} {b′} {n} z e = record { answer-is = sym z; bytes-are = rw z e }
-
-pub keeps-bytes : {s : BatchCoalescer} {b : List ℕ} {n : ℕ} → (n ≡ 0 → ⊥) → KeepsState n s b b n
-keeps-bytes {s} {b} {n} h = record { answer-is = refl; bytes-are = rw (ne-eqb n 0 h) }
 
 -- ---- what decoding says
 

@@ -8,13 +8,15 @@ use Rattle.rules.specs.Batch.{Batch}
 use Rattle.rules.specs.Calls.{Answered, pushCall}
 use Rattle.rules.specs.declared.Step.{Step}
 use Rattle.rules.specs.CallLaws.{push-done, push-not}
-use Rattle.coalesce.specs.declared.Verdict.{Verdict}
-use Rattle.coalesce.specs.Push.{verdictOf, Unchanged, Judged, Orderly, Pushes}
-use Rattle.coalesce.specs.PushLaws.{VerdictCase, refuses, nothing, goes, verdict-case}
+use Rattle.judging.specs.declared.Verdict.{Verdict}
+use Rattle.judging.specs.Judging.{verdictOf}
+use Rattle.judging.specs.JudgeLaws.{VerdictCase, refuses, nothing, goes, verdict-case}
+use Rattle.coalesce.specs.Push.{Unchanged, Judged, Orderly, Pushes}
 use Rattle.finishing.specs.Finish.{answered}
 use Rattle.codes.specs.declared.Coded.{Coded}
 use Rattle.codes.specs.Code.{decoded}
-use Rattle.capi.specs.Api.{Memory, memory, said, number, Given, given, pushing, worldIn, KeepsState, coded, called}
+use Rattle.crossing.specs.Cross.{KeepsState}
+use Rattle.capi.specs.Api.{Memory, memory, said, number, Given, given, pushing, worldIn, coded, called}
 use Rattle.capi.specs.ApiLaws.{called-same, call-refused, call-done}
 
 -- a call that gives an answer whatever the world

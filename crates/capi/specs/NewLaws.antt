@@ -9,7 +9,7 @@ use lib.ListN.{length, getD}
 use lib.Dec.{leb, eqb}
 use mir.Syntax.{w32}
 use mir.Val.{Fits}
-use borrow.Author.Tests.{eq-eqb, ne-eqb, le-leb, lt-leb, eqb-true, leb-true}
+use borrow.Author.Tests.{eq-eqb, ne-eqb, le-leb, eqb-true, leb-true}
 use Rattle.words.specs.Word.{word32}
 use Rattle.state.specs.World.{world}
 use Rattle.rules.specs.Ranges.{inBounds, fitsSetUp}
@@ -19,26 +19,18 @@ use Rattle.push_safety.specs.TestedLaws.{bounds-say}
 use Rattle.rules.specs.declared.Step.{Step}
 use Rattle.set_up.specs.SetUp.{padded, wantedOf, SetsUp}
 use Rattle.codes.specs.Code.{stateBytes}
-use Rattle.crossing.specs.Cross.{kindsTo, wordsFrom}
+use Rattle.crossing.specs.Cross.{keptAs, KeepsState, kindsTo, wordsFrom}
 use Rattle.crossing.specs.CrossLaws.{kinds-at}
-use Rattle.capi.specs.Api.{memory, said, number, given, keptAs, KeepsState, coded, askedFor, askable, created}
+use Rattle.capi.specs.Api.{memory, said, number, given, coded, askedFor, askable, created}
 
 -- ---- is_askable
 
 module _ (state kinds pool : ℕ) where
-  pub ask-state : (state ≡ stateBytes → ⊥) → false ≡ askable state kinds pool
+  pub asks-all : (eqb state stateBytes && (leb kinds 64 && (eqb (kinds % 4) 0 && leb pool 4294967295))) ≡ askable state kinds pool
   unfolding askable
-  ask-state h = rw (ne-eqb state stateBytes h)
+  asks-all = refl
 
-  pub ask-kinds : state ≡ stateBytes → 64 < kinds → false ≡ askable state kinds pool
-  unfolding askable
-  ask-kinds p h = rw (eq-eqb state stateBytes p, lt-leb kinds 64 h)
-
-  pub ask-words : state ≡ stateBytes → kinds ≤ 64 → (kinds % 4 ≡ 0 → ⊥) → false ≡ askable state kinds pool
-  unfolding askable
-  ask-words p q h = rw (eq-eqb state stateBytes p, le-leb kinds 64 q, ne-eqb (kinds % 4) 0 h)
-
-  pub ask-pool : state ≡ stateBytes → kinds ≤ 64 → kinds % 4 ≡ 0 → leb pool 4294967295 ≡ askable state kinds pool
+  ask-pool : state ≡ stateBytes → kinds ≤ 64 → kinds % 4 ≡ 0 → leb pool 4294967295 ≡ askable state kinds pool
   unfolding askable
   ask-pool p q h = rw (eq-eqb state stateBytes p, le-leb kinds 64 q, eq-eqb (kinds % 4) 0 h)
 

@@ -4,8 +4,7 @@
 ghost use mathlib.Core.Path.{_≡_};
 ghost use lib.ListN.{length};
 ghost use Rattle.rules.specs.Batch.{batch};
-ghost use Rattle.codes.specs.Code.{stateBytes};
-ghost use Rattle.capi.specs.Api.{memory, said, told, number, both, finishing, dropping, registering, lettingGo, KeepsState, called, askedFor, askable, created};
+ghost use Rattle.capi.specs.Api.{memory, said, told, number, both, finishing, dropping, registering, lettingGo, called, askedFor, askable, created};
 ghost use Rattle.capi.specs.HandsOn.{HandsOn};
 ghost use Rattle.capi.specs.Api.{bufferNumber, bufferRead, rowIn, rowRead, limitSet, limitRead, rowsBuffered, completedFlag, emptyFlag};
 use counts::BufferNumber;
@@ -15,36 +14,11 @@ use set_up::Wanted;
 use state::BatchCoalescer;
 use state::RowAnswer;
 
-// The state coded where the number of a refusal is 0; hands on that number.
-fn keep(state: &mut [u8], refusal: u32, s: BatchCoalescer) -> u32
-    requires { ⌜ length (now state) ≡ stateBytes ⌝ }
-    ensures { λ r. ⌜ KeepsState refusal s (now (state .entry)) (now (state .exit)) r ⌝ }
-{
-    if refusal == 0 {
-        encoding::encode(state, s);
-        0
-    } else {
-        refusal
-    }
-}
-
 // Whether set-up can be asked for: a state of 304 bytes, at most 16 kinds in whole words, and a pool whose length is a number of it.
 fn is_askable(state: usize, kinds: usize, pool: usize) -> bool
     ensures { λ r. ⌜ r ≡ askable state kinds pool ⌝ }
 {
-    if state == codes::STATE_BYTES {
-        if kinds <= 64 {
-            if kinds % 4 == 0 {
-                pool <= 4294967295
-            } else {
-                false
-            }
-        } else {
-            false
-        }
-    } else {
-        false
-    }
+    (state == codes::STATE_BYTES) & ((kinds <= 64) & ((kinds % 4 == 0) & (pool <= 4294967295)))
 }
 
 // Set-up. `kinds` are words of 4 bytes, one a column. 0, or 1 and nothing changed.
@@ -76,7 +50,7 @@ pub extern "C" fn pw_new(
             pool: ByteCount(pool.len() as u32),
         };
         let step = set_up::new_coalescer(wanted, slots, pool, books);
-        keep(state, step.number, step.state)
+        crossing::keep(state, step.number, step.state)
     } else {
         1
     }
@@ -101,7 +75,7 @@ pub extern "C" fn pw_push_batch(
         let s = coded.state;
         let step = coalesce::push_batch(s, slots, pool, books, records, body, RowCount(rows));
         let pushed = step.state;
-        keep(state, step.number, pushed)
+        crossing::keep(state, step.number, pushed)
     } else {
         coded.number
     }
@@ -121,9 +95,9 @@ pub extern "C" fn pw_finish_buffered_batch(
     let coded = decoding::decode(state);
     if coded.number == 0 {
         let s = coded.state;
-        let step = coalesce::finish_buffered_batch(s, slots, pool, books);
+        let step = buffered::finish_buffered_batch(s, slots, pool, books);
         let finished = step.state;
-        keep(state, step.number, finished)
+        crossing::keep(state, step.number, finished)
     } else {
         coded.number
     }
@@ -145,7 +119,7 @@ pub extern "C" fn pw_next_completed_batch(
         let s = coded.state;
         let dropped = completed::next_completed_batch(s, slots, pool, books);
         let t = dropped.state;
-        let refusal = keep(state, dropped.number, t);
+        let refusal = crossing::keep(state, dropped.number, t);
         crossing::both(refusal, dropped.rows.0)
     } else {
         crossing::both(coded.number, 0)
@@ -292,7 +266,7 @@ pub extern "C" fn pw_set_biggest_coalesce_batch_size(state: &mut [u8], set: u32,
         let s = coded.state;
         let limit = decoding::limit_of(set, rows);
         let t = queries::set_biggest_coalesce_batch_size(s, limit);
-        keep(state, 0, t)
+        crossing::keep(state, 0, t)
     } else {
         coded.number
     }

@@ -21,10 +21,12 @@ use Rattle.rules.specs.Calls.{Answered, orOld, pushCall}
 use Rattle.trial_truth.specs.Like.{numberOf, ColumnOpens, OwnBlocks}
 use Rattle.trial.specs.Trial.{Restored, Answers}
 use Rattle.trial.specs.NumberLaws.{clean-tidy, restored-exact, restored-none, answers-number, answers-refuses}
-use Rattle.coalesce.specs.declared.Verdict.{Verdict}
+use Rattle.judging.specs.declared.Verdict.{Verdict}
+use Rattle.judging.specs.Judging.{verdictOf, Judges}
+use Rattle.judging.specs.JudgeLaws.{turn, VerdictCase, refuses, nothing, goes, verdict-case}
 use Rattle.finishing.specs.Finish.{answered}
-use Rattle.coalesce.specs.Push.{verdictOf, Judges, Ready, Orderly, Does, Pushes}
-use Rattle.coalesce.specs.PushLaws.{VerdictCase, refuses, nothing, goes, verdict-case, judged-go, judged-nothing, judged-refused}
+use Rattle.coalesce.specs.Push.{Ready, Orderly, Does, Pushes}
+use Rattle.coalesce.specs.PushLaws.{judged-go, judged-nothing, judged-refused}
 
 -- ---- the exits of push_judged
 
@@ -82,12 +84,6 @@ call-is w b e = ap (orOld w) e
 old-number : (w : World) (x : Res) → orOld w x .number ≡ numberOf x
 old-number w (ok v) = refl
 old-number w (refuse n) = refl
-
--- the verdicts are different
-abbrev turn : Verdict → ℕ
-turn Verdict.Go = 0
-turn Verdict.Nothing = 1
-turn (Verdict.Refused n) = 2
 
 module _ (w : World) (b : Batch) where
   says-go : verdictOf w b ≡ Verdict.Go → pushed w b ≡ stepped w b

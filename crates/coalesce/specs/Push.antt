@@ -1,44 +1,22 @@
--- The tests of a push, by cases; and what a push promises of a call that its tests refuse.
+-- What a push asks after its tests, and what it promises, of a call that they refuse too.
 use Prim.Native.Nat.{ℕ}
 use mathlib.Core.Path.{_≡_}
-use mathlib.Core.Bool.{cond}
 use mathlib.Core.List.{List}
-use mathlib.Core.Option.{Option, none, some}
 use lib.ListN.{length}
-use lib.Dec.{eqb}
-use Rattle.words.specs.WordLaws.{Bytes}
 use Rattle.columns.specs.Pushing.{Pushing}
 use Rattle.trial_truth.specs.Like.{numberOf, OwnBlocks}
-use Rattle.trial.specs.Trial.{Restored, Tidy}
-use Rattle.trial.specs.Trying.{Unmarked}
+use Rattle.trial.specs.Trial.{Unmarked, Restored, Tidy}
 use Rattle.state.specs.declared.BatchCoalescer.{BatchCoalescer}
 use Rattle.state.specs.Layout.{slotsLength}
 use Rattle.rules.specs.declared.Step.{Step}
 use Rattle.state.specs.World.{World, world}
-use Rattle.rules.specs.declared.Fault.{Fault}
 use Rattle.rules.specs.Batch.{Batch}
-use Rattle.rules.specs.Checks.{batchFault}
-use Rattle.rules.specs.Ranges.{tested}
 use Rattle.rules.specs.Steps.{inBooks}
 use Rattle.rules.specs.Push.{stepped}
-use Rattle.rules.specs.Calls.{Answered, orOld, pushCall}
+use Rattle.rules.specs.Calls.{orOld, pushCall}
 use Rattle.finishing.specs.Finish.{answered}
-use Rattle.coalesce.specs.declared.Verdict.{Verdict}
-
-abbrev pub ofFault : Option Fault → Verdict
-ofFault none = Verdict.Go
-ofFault (some f) = Verdict.Refused (f .number)
-
--- 01: "Order for a push: 1, 14, then step 1, then 2, 3, then per column 4, 5, 6, and 7 by rows."; step 1: "0 rows: done, nothing changes,
--- before any batch check."
-unfoldable pub verdictOf : World → Batch → Verdict
-verdictOf w b =
-    cond (eqb (tested w) 0) (cond (eqb (b .rows) 0) Verdict.Nothing (ofFault (batchFault w b))) (Verdict.Refused (tested w))
-
--- what judge answers: the verdict; and the books it read are bytes
-pub record Judges (s : BatchCoalescer) (slots pool books : List ℕ) (b : Batch) (r : Verdict) : Type 0 where
-  pub verdict-is : r ≡ verdictOf (world s slots pool books) b
-  pub bytes : Bytes books
+use Rattle.judging.specs.declared.Verdict.{Verdict}
+use Rattle.judging.specs.Judging.{verdictOf}
 
 -- what the steps of a push ask, after its tests
 pub record Ready (s : BatchCoalescer) (slots pool books : List ℕ) (b : Batch) : Type 0 where

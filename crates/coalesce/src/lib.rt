@@ -1,51 +1,13 @@
-// Pushing and finishing: small batches of rows in, batches of the target size out, in order.
-// From arrow-select 60.0.0, src/coalesce.rs: `BatchCoalescer::push_batch`, `finish_buffered_batch`. The state goes by value; slots, pool and books are
+// Pushing: small batches of rows in, batches of the target size out, in order.
+// From arrow-select 60.0.0, src/coalesce.rs: `BatchCoalescer::push_batch`. The state goes by value; slots, pool and books are
 // lent. A call that refuses, by 01's number, changes nothing.
-ghost use mathlib.Core.Path.{_≡_};
 ghost use Rattle.state.specs.World.{world};
 ghost use Rattle.rules.specs.Batch.{batch};
-ghost use Rattle.rules.specs.Calls.{finishCall};
-ghost use Rattle.finishing.specs.Finish.{answered};
-ghost use Rattle.coalesce.specs.Push.{Judges, Ready, Does, Pushes};
+ghost use Rattle.coalesce.specs.Push.{Ready, Does, Pushes};
 use counts::RowCount;
+use judging::Verdict;
 use rules::Step;
 use state::BatchCoalescer;
-
-// What the tests of a push say.
-pub enum Verdict {
-    Go,
-    Nothing,
-    Refused(u32),
-}
-
-// The tests of a push in order: 1, 14, then 0 rows, then 2 to 7.
-fn judge(
-    s: BatchCoalescer,
-    slots: &[u8],
-    pool: &[u8],
-    books: &[u8],
-    records: &[u8],
-    body: &[u8],
-    rows: u32,
-) -> Verdict
-    ensures { λ r. ⌜ Judges s (now (slots .entry)) (now (pool .entry)) (now (books .entry)) (batch rows (now (records .entry)) (now (body .entry))) r ⌝ }
-{
-    let number = ranges::tested(s, slots, pool, books);
-    if number == 0 {
-        if rows == 0 {
-            Verdict::Nothing
-        } else {
-            let fault = checks::batch_fault(s, pool, books, records, body, rows);
-            if fault.number == 0 {
-                Verdict::Go
-            } else {
-                Verdict::Refused(fault.number)
-            }
-        }
-    } else {
-        Verdict::Refused(number)
-    }
-}
 
 // A push that passed its tests: the trial first, then the steps.
 fn push_judged(
@@ -84,7 +46,7 @@ pub fn push_batch(
 ) -> Step
     ensures { λ r. ⌜ Pushes (world s (now (slots .entry)) (now (pool .entry)) (now (books .entry))) (batch (rows .0) (now (records .entry)) (now (body .entry))) r (now (slots .exit)) (now (pool .exit)) (now (books .exit)) ⌝ }
 {
-    let verdict = judge(s, slots, pool, books, records, body, rows.0);
+    let verdict = judging::judge(s, slots, pool, books, records, body, rows.0);
     match verdict {
         Verdict::Go => push_judged(s, slots, pool, books, records, body, rows.0),
         Verdict::Nothing => Step {
@@ -92,25 +54,5 @@ pub fn push_batch(
             number: 0,
         },
         Verdict::Refused(number) => Step { state: s, number },
-    }
-}
-
-// finish_buffered_batch: the answer and the world of 01's call, whatever state and memory it is handed. 1, 14, 9.
-pub fn finish_buffered_batch(
-    s: BatchCoalescer,
-    slots: &mut [u8],
-    pool: &[u8],
-    books: &mut [u8],
-) -> Step
-    ensures { λ r. ⌜ answered r (now (slots .exit)) (now (pool .entry)) (now (books .exit)) ≡ finishCall (world s (now (slots .entry)) (now (pool .entry)) (now (books .entry))) ⌝ }
-{
-    let refusal = ranges::tested(s, slots, pool, books);
-    if refusal == 0 {
-        finishing::finish(s, slots, books)
-    } else {
-        Step {
-            state: s,
-            number: refusal,
-        }
     }
 }

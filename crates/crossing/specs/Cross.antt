@@ -1,13 +1,17 @@
 -- What crosses the C layer, as numbers and words: docs/HOST.md, "Functions".
 use Prim.Native.Nat.{ℕ, zero, suc, _+_, _*_, _/_, _%_}
+use mathlib.Core.Path.{_≡_}
+use mathlib.Core.Bool.{cond}
 use mathlib.Core.List.{List, [], _∷_}
+use lib.Dec.{eqb}
 use lib.ListN.{set, replicate}
 use Rattle.words.specs.Word.{word32}
 use Rattle.pool.specs.declared.Registered.{Registered}
+use Rattle.state.specs.declared.BatchCoalescer.{BatchCoalescer}
 use Rattle.state.specs.declared.Limit.{Limit}
 use Rattle.state.specs.declared.Place.{Place}
 use Rattle.state.specs.declared.RowAnswer.{RowAnswer}
-use Rattle.codes.specs.Code.{bytesOf}
+use Rattle.codes.specs.Code.{bytesOf, codeOf}
 
 -- two numbers as one: the first in the upper 32 bits, the second in the lower
 abbrev pub pair : ℕ → ℕ → ℕ
@@ -44,3 +48,14 @@ kindsTo b (suc c) = set (kindsTo b c) c (word32 b (4 * c))
 unfoldable pub wordsFrom : List ℕ → ℕ → ℕ → List ℕ
 wordsFrom b at zero = []
 wordsFrom b at (suc n) = word32 b at ∷ wordsFrom b (at + 4) n
+
+-- ---- the state in bytes
+
+-- the state is coded anew, and a refusal leaves its bytes
+abbrev pub keptAs : ℕ → BatchCoalescer → List ℕ → List ℕ
+keptAs n s b = cond (eqb n 0) (codeOf s) b
+
+-- what keeping a state leaves: the number handed on, and the bytes
+pub record KeepsState (n : ℕ) (s : BatchCoalescer) (b b′ : List ℕ) (r : ℕ) : Type 0 where
+  pub answer-is : r ≡ n
+  pub bytes-are : b′ ≡ keptAs n s b

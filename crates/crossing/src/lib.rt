@@ -1,4 +1,4 @@
-// What crosses the C layer: answers as numbers and as words, bytes copied out, kinds from words. docs/HOST.md has the forms.
+// What crosses the C layer: answers as numbers and as words, the state kept in bytes, bytes copied out, kinds from words. docs/HOST.md has the forms.
 ghost use mathlib.Core.Path.{_≡_};
 ghost use mathlib.Core.Bool.{cond};
 ghost use mathlib.Core.List.{[], _∷_};
@@ -8,8 +8,10 @@ ghost use Rattle.words.specs.Run.{lay};
 ghost use Rattle.pool.specs.Register.{refusalOf};
 ghost use Rattle.rules.specs.Calls.{rowRefusal};
 ghost use Rattle.codes.specs.Code.{bytesOf};
-ghost use Rattle.crossing.specs.Cross.{pair, numberIn, limitPair, placeWords, rowBytes, kindsTo};
+ghost use Rattle.codes.specs.Code.{stateBytes};
+ghost use Rattle.crossing.specs.Cross.{KeepsState, pair, numberIn, limitPair, placeWords, rowBytes, kindsTo};
 use pool::Registered;
+use state::BatchCoalescer;
 use state::Limit;
 use state::Place;
 use state::RowAnswer;
@@ -110,4 +112,17 @@ pub fn kinds_of(kinds: &[u8]) -> [u32; 16]
         c += 1;
     }
     all
+}
+
+// The state coded where the number of a refusal is 0; hands on that number.
+pub fn keep(state: &mut [u8], refusal: u32, s: BatchCoalescer) -> u32
+    requires { ⌜ length (now state) ≡ stateBytes ⌝ }
+    ensures { λ r. ⌜ KeepsState refusal s (now (state .entry)) (now (state .exit)) r ⌝ }
+{
+    if refusal == 0 {
+        encoding::encode(state, s);
+        0
+    } else {
+        refusal
+    }
 }

@@ -2,8 +2,6 @@
 use Prim.Native.Nat.{ℕ, _+_, _≤_, _<_}
 use mathlib.Core.Path.{_≡_, sym, _∙_, ap}
 use mathlib.Core.Bool.{cond}
-use mathlib.Core.List.{List}
-use native.Mathlib.Omega.{arith}
 use Rattle.byte_view.specs.declared.Source.{Source}
 use Rattle.primitive.specs.declared.Rows.{Rows}
 use Rattle.rules.specs.declared.ColumnRecord.{ColumnRecord}
@@ -12,16 +10,12 @@ use Rattle.rules.specs.Batch.{Batch, recordOf, way, ideal}
 use Rattle.rules.specs.Views.{columnCopied}
 use Rattle.rules.specs.Stays.{SameSetUp}
 use Rattle.rules.specs.SameLaws.{same-views, same-ideal}
-use Rattle.state.specs.declared.BatchCoalescer.{BatchCoalescer}
-use Rattle.state.specs.World.{World, world}
-use Rattle.state.specs.Layout.{isViews, valuesPlace, listLength}
+use Rattle.state.specs.World.{World}
+use Rattle.state.specs.Layout.{isViews, valuesPlace}
 use Rattle.columns.specs.Column.{sourceFor}
-use Rattle.columns.specs.SourceLaws.{source-way, source-ideal, list-same}
+use Rattle.columns.specs.SourceLaws.{source-way, source-ideal}
 use Rattle.push_safety.specs.Run.{Run, Readable}
-use Rattle.push_safety.specs.TestedLaws.{bounds-say}
-use Rattle.push_safety.specs.AttachGoes.{listed-length, listed-used}
-use Rattle.push_safety.specs.Firm.{Firm}
-use Rattle.in_progress.specs.Part.{Part, Listable, Decided, copiedBy}
+use Rattle.in_progress.specs.Part.{Part, Decided, copiedBy}
 
 -- n rows of column c of the batch from row `from` on, behind those buffered
 abbrev pub rowsOf : World → ℕ → ℕ → ℕ → Rows
@@ -53,33 +47,3 @@ module _ (w₀ w : World) (b : Batch) (c : ℕ) (e : SameSetUp (w₀ .state) (w 
   copied-is p f g =
       let h : x .way ≡ cond (isViews (w .state) c) (way w₀ b c) Way.Copied = ap (λ (z : Source). z .way) q ∙ source-way w₀ b c ∙ rw (same-views e c) in
       rw (f, g, h)
-
--- ---- a list that may be attached: of a batch queued whole too, where an open block need not have a place any more
-
-pub listable-at : {s : BatchCoalescer} {slots pool books : List ℕ} {b : Batch} {c : ℕ} → Firm (world s slots pool books) → Readable (world s slots pool books) b → c < s .columns → listLength (world s slots pool books) (s .place) c + recordOf b c .count ≤ s .lists → Listable s slots books b c
-listable-at {s} {slots} {pool} {books} {b} {c} f x h l =
-    record {
-      few =
-          record {
-            rows = bounds-say s (f .fit .bounds) .rows;
-            queue = bounds-say s (f .fit .bounds) .queue;
-            columns = bounds-say s (f .fit .bounds) .columns;
-            lists = bounds-say s (f .fit .bounds) .lists;
-            numbers = bounds-say s (f .fit .bounds) .numbers;
-          };
-      place = f .fit .place;
-      column = h;
-      slots-are = f .fit .slots-are;
-      books-are = f .fit .books-are;
-      inside = x .columns c h .listed;
-      listed =
-          record {
-            room = f .books .roomy .room;
-            used = f .books .used;
-            list-room = omega (arith, listed-length b c (x .columns c h));
-            below = λ i j. omega (arith, listed-used b c (x .columns c h) i j, f .books .used);
-          };
-      room = omega (arith, list-same s slots pool books c (s .place));
-      plain = x .columns c h .plain;
-      empty = λ y. list-same s slots pool books c (s .place) ∙ f .none (s .place) c (f .fit .place) h y;
-    }

@@ -1,21 +1,19 @@
 -- What copying a part of a batch into a column of the slot being filled asks, and what its steps leave.
-use Prim.Native.Nat.{ℕ, _+_, _*_, _-_, _≤_, _<_}
+use Prim.Native.Nat.{ℕ, _+_, _-_, _≤_, _<_}
 use mathlib.Core.Path.{_≡_}
 use mathlib.Core.Bool.{true, false}
-use mathlib.Core.List.{List, []}
+use mathlib.Core.List.{List}
 use lib.ListN.{length}
-use Rattle.listings.specs.Listing.{Listed}
 use Rattle.byte_view.specs.declared.Source.{Source}
 use Rattle.primitive.specs.declared.Rows.{Rows}
 use Rattle.rules.specs.declared.ColumnRecord.{ColumnRecord}
 use Rattle.rules.specs.declared.Way.{Way}
-use Rattle.rules.specs.Batch.{Batch, recordOf, listOf, ideal}
+use Rattle.rules.specs.Batch.{Batch, recordOf, ideal}
 use Rattle.rules.specs.Steps.{Res, bind}
 use Rattle.rules.specs.Views.{isOpen, openRest, longBefore, closed, blockOpened, viewsCompacted, walked, listAttached, viewsRaised, partAttached, bitsCopied, byWay}
 use Rattle.state.specs.declared.BatchCoalescer.{BatchCoalescer}
 use Rattle.state.specs.World.{World, world}
-use Rattle.state.specs.Layout.{isViews, valuesPlace, slotsLength, booksLength, listLength}
-use Rattle.layout.specs.Few.{Few}
+use Rattle.state.specs.Layout.{isViews, valuesPlace}
 use Rattle.rules.specs.declared.Step.{Step}
 use Rattle.rules.specs.Leaves.{Steps}
 use Rattle.push_safety.specs.Run.{Run, Readable}
@@ -88,19 +86,6 @@ pub record Walks (w : World) (b : Batch) (r : ColumnRecord) (p : Rows) (ideal re
   pub rest-is : rest ≡ openRest w (p .column)
   pub short : rest < ideal
 
--- a whole list may be put behind that of column c
-pub record Listable (s : BatchCoalescer) (slots books : List ℕ) (b : Batch) (c : ℕ) : Type 0 where
-  pub few : Few s
-  pub place : s .place ≤ s .queue
-  pub column : c < s .columns
-  pub slots-are : length slots ≡ slotsLength s
-  pub books-are : length books ≡ booksLength s
-  pub inside : recordOf b c .list + 4 * recordOf b c .count ≤ length (b .body)
-  pub listed : Listed books (s .numbers) (listOf b c) (recordOf b c .count)
-  pub room : listLength (world s [] [] books) (s .place) c + recordOf b c .count ≤ s .lists
-  pub plain : isViews s c ≡ false → recordOf b c .count ≡ 0
-  pub empty : isViews s c ≡ false → listLength (world s [] [] books) (s .place) c ≡ 0
-
 -- what was decided of the column: its ideal size, and its way, which is to be copied where there are no views
 pub record Decided (w : World) (b : Batch) (c : ℕ) (x : Source) : Type 0 where
   pub ideal-is : isViews (w .state) c ≡ true → x .ideal .0 ≡ ideal w b c
@@ -108,10 +93,7 @@ pub record Decided (w : World) (b : Batch) (c : ℕ) (x : Source) : Type 0 where
 
 -- ---- what the steps leave
 
--- the list of column c is attached; a part with its list is, or is not
-pub record Attaches (s : BatchCoalescer) (slots books : List ℕ) (b : Batch) (c : ℕ) (slots′ books′ : List ℕ) : Type 0 where
-  pub is : (pool : List ℕ) → listAttached (world s slots pool books) b c ≡ world s slots′ pool books′
-
+-- a part is attached with its list, or is not
 pub record AttachesPart (s : BatchCoalescer) (slots books : List ℕ) (b : Batch) (p : Rows) (q : Step) (slots′ books′ : List ℕ) : Type 0 where
   pub steps : (pool : List ℕ) → length pool ≡ s .pool .0 → Steps (partAttached (world s slots pool books) b (p .column) (p .at) (p .from) (p .count)) q slots′ pool books′
 

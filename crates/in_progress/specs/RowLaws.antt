@@ -1,139 +1,119 @@
 -- A part of a column copied, the way that was decided: the calls of the code, and its ways out.
-use Prim.Native.Nat.{ℕ, _+_, _*_, _-_, _≤_}
-use mathlib.Core.Path.{_≡_, refl, sym, _∙_}
+use Prim.Native.Nat.{ℕ, _+_, _*_, _-_}
+use mathlib.Core.Path.{_≡_, refl, sym, _∙_, ap}
 use mathlib.Core.Bool.{Bool, true, false}
 use mathlib.Core.List.{List}
 use native.Mathlib.Omega.{arith}
-use native.Mathlib.Nat.{add-mul}
+use native.Mathlib.Nat.{mul-le-mul-right}
 use lib.ListN.{length}
 use Rattle.words.specs.Run.{read, lay}
 use Rattle.bits.specs.Bits.{appended}
 use Rattle.byte_view.specs.declared.Source.{Source}
 use Rattle.primitive.specs.declared.Rows.{Rows}
-use Rattle.primitive.specs.Fits.{bitsOf, Bitmapped, Valued}
-use Rattle.primitive.specs.LaidLaws.{bits-copied, values-copied}
+use Rattle.primitive.specs.Fits.{bitsOf, rowsLaid}
+use Rattle.primitive.specs.LaidLaws.{bits-copied}
+use Rattle.primitive.specs.Placed.{Placed}
+use Rattle.primitive.specs.PlacedLaws.{begin-at, placed-copied}
 use Rattle.rules.specs.declared.ColumnRecord.{ColumnRecord}
 use Rattle.rules.specs.declared.Way.{Way}
-use Rattle.rules.specs.Batch.{Batch, batch, recordOf, hasBitmap, valuePlace, ideal}
+use Rattle.rules.specs.Batch.{Batch, batch, recordOf, hasBitmap, ideal}
 use Rattle.rules.specs.Views.{bitsCopied, byWay, partCompacted}
 use Rattle.rules.specs.SameLaws.{same-ideal}
 use Rattle.rules.specs.PartLaws.{bits-beside}
 use Rattle.state.specs.declared.BatchCoalescer.{BatchCoalescer}
 use Rattle.state.specs.World.{World, world}
-use Rattle.state.specs.Layout.{widthOf, isViews, valuesBytes, bitmapPlace, bitmapBytes, cellPlace}
-use Rattle.state.specs.LayoutLaws.{bits-fit}
+use Rattle.state.specs.Layout.{widthOf, isViews, bitmapBytes}
 use Rattle.rules.specs.declared.Step.{Step}
 use Rattle.rules.specs.Steps.{ok}
 use Rattle.rules.specs.Leaves.{Steps, steps-done}
-use Rattle.push_safety.specs.CallerLaws.{cells-room, bitmap-room, values-room}
 use Rattle.push_safety.specs.StepGoes.{bits-goes}
 use Rattle.push_safety.specs.Along.{Along}
 use Rattle.in_progress.specs.Part.{Part, ViewPart, AnyPart, Decided, AttachesPart, copiedBy}
-use Rattle.in_progress.specs.AskLaws.{part-place}
+use Rattle.in_progress.specs.AskLaws.{part-few, part-slot}
 use Rattle.in_progress.specs.AlongLaws.{part-on, any-part}
 
-module _ {s : BatchCoalescer} {slots pool books records body : List ℕ} {rows : ℕ} {r : ColumnRecord} {p : Rows} (x : Part (world s slots pool books) (batch rows records body) r p) {width : ℕ} (we : width ≡ widthOf s (p .column)) where
+module _ {s : BatchCoalescer} {slots pool books records body : List ℕ} {rows : ℕ} {r : ColumnRecord} {p : Rows} (x : Part (world s slots pool books) (batch rows records body) r p) where
   abbrev w : World
   w = world s slots pool books
 
   abbrev b : Batch
   b = batch rows records body
 
-  begin-at : p .place + s .rows .0 * width ≡ bitmapPlace s (s .place) (p .column)
-  unfolding bitmapPlace valuesBytes
-  begin-at = rw (x .placed, we)
-
-  -- what copying the bits asks
-  pub rows-bitmapped : {size : ℕ} → width ≤ 32 → s .rows .0 * width ≤ 2097152 → size ≡ bitmapBytes s → size ≤ 8192 → Bitmapped (length slots) (p .place + s .rows .0 * width) size r (length body) p
-  rows-bitmapped {size} h m e l =
+  -- what copying bits and values asks
+  pub part-placed : Placed s (s .place) (length slots) r (length body) p
+  part-placed =
       record {
-        inside = rw (begin-at, e) (bitmap-room (x .run) (p .column) (x .column));
-        small = omega (arith, part-place x);
-        rows = omega (arith, e, bits-fit s, x .room);
+        few = part-few x;
+        in-slots = part-slot x;
+        in-columns = x .column;
+        slots-are = x .run .fit .slots-are;
+        placed = x .placed;
+        room = x .room;
         bits = λ t.
             let y : hasBitmap (recordOf b (p .column)) ≡ true = rw (x .recorded) at t in
             rw (x .recorded) (omega (arith, x .reads .columns (p .column) (x .column) .bits y, x .there));
+        values =
+            rw (x .recorded)
+            (omega (arith, x .reads .columns (p .column) (x .column) .values, mul-le-mul-right {m = p .from + p .count} {n = rows} (widthOf s (p .column)) (x .there)));
       }
 
-  module _ {size : ℕ} (e : size ≡ bitmapBytes s) {slots′ : List ℕ} (q : slots′ ≡ lay (p .place + s .rows .0 * width) (appended (read (p .place + s .rows .0 * width) size slots) (p .at) (bitsOf r body (p .from)) (p .count)) slots) where
-    v : world s slots′ pool books ≡ bitsCopied w b (p .column) (s .place) (p .at) (p .from) (p .count)
-    v = bits-copied s slots pool books rows records body (p .column) (s .place) (p .at) (p .from) (p .count) (x .recorded) begin-at e q
+  module _ {width : ℕ} (we : width ≡ widthOf s (p .column)) {size : ℕ} (e : size ≡ bitmapBytes s) where
+    -- copied as they stand: where no state is handed back, and where one is
+    pub rows-plain : {slots″ : List ℕ} → slots″ ≡ rowsLaid (p .place + s .rows .0 * width) size r body width p slots → copiedBy w b p Way.Copied ≡ ok (world s slots″ pool books)
+    unfolding copiedBy bitsCopied
+    rows-plain z = ap ok (placed-copied part-placed we e slots pool books rows records body (x .recorded) z)
 
-    on : Along w (world s slots′ pool books)
-    on =
-        rw v
-        (record {
-          goes = bits-goes b (p .column) (s .place) (p .at) (p .from) (p .count) (x .run);
-          beside = bits-beside w b (p .column) (s .place) (p .at) (p .from) (p .count);
-        })
+    pub rows-copied : {y : Way} {slots″ : List ℕ} → y ≡ Way.Copied → slots″ ≡ rowsLaid (p .place + s .rows .0 * width) size r body width p slots → Steps (copiedBy w b p y) (record { state = s; number = 0 }) slots″ pool books
+    rows-copied f z = steps-done (ap (copiedBy w b p) f ∙ rows-plain z)
 
-    bits-part : Part (world s slots′ pool books) b r p
-    bits-part = part-on on x
+    module _ {slots′ : List ℕ} (q : slots′ ≡ lay (p .place + s .rows .0 * width) (appended (read (p .place + s .rows .0 * width) size slots) (p .at) (bitsOf r body (p .from)) (p .count)) slots) where
+      v : world s slots′ pool books ≡ bitsCopied w b (p .column) (s .place) (p .at) (p .from) (p .count)
+      v = bits-copied s slots pool books rows records body (p .column) (s .place) (p .at) (p .from) (p .count) (x .recorded) (begin-at part-placed we) e q
 
-    cell-at : cellPlace s (s .place) (p .column) (p .at) ≡ p .place + p .at * width
-    unfolding cellPlace
-    cell-at = rw (x .placed, we)
+      on : Along w (world s slots′ pool books)
+      on =
+          rw v
+          (record {
+            goes = bits-goes b (p .column) (s .place) (p .at) (p .from) (p .count) (x .run);
+            beside = bits-beside w b (p .column) (s .place) (p .at) (p .from) (p .count);
+          })
 
-    value-at : valuePlace w b (p .column) (p .from) ≡ r .values + p .from * width
-    unfolding valuePlace
-    value-at = rw (we, x .recorded)
+      bits-part : Part (world s slots′ pool books) b r p
+      bits-part = part-on on x
 
-    -- what copying the values asks
-    pub rows-valued : width ≤ 32 → Valued (length slots′) r (length body) width p
-    rows-valued h =
-        record {
-          narrow = h;
-          small = omega (arith, part-place x);
-          inside =
-              let l = cells-room (bits-part .run) (p .column) (x .column) (p .at) (p .count) (x .room) in
-              omega (arith, rw (← we, cell-at) at l, add-mul (p .at) (p .count) width);
-          values =
-              let l = values-room (x .reads) (p .column) (p .from) (p .count) (x .column) (x .there) in
-              omega (arith, rw (← we, value-at) at l, add-mul (p .from) (p .count) width);
-        }
+      copied-by : (y : Way) → copiedBy w b p y ≡ byWay (world s slots′ pool books) b (p .column) (p .at) (p .from) (p .count) y
+      unfolding copiedBy
+      copied-by y = rw v
 
-    copied-by : (y : Way) → copiedBy w b p y ≡ byWay (world s slots′ pool books) b (p .column) (p .at) (p .from) (p .count) y
-    unfolding copiedBy
-    copied-by y = rw v
+      module _ {source : Source} (d : Decided w b (p .column) source) where
+        views-so : (source .way ≡ Way.Copied → ⊥) → isViews s (p .column) ≡ true
+        views-so h = go (isViews s (p .column)) refl
+          where
+            go : (z : Bool) → isViews s (p .column) ≡ z → isViews s (p .column) ≡ true
+            go true e = e
+            go false e = absurd (h (d .plain e))
 
-    -- copied
-    pub rows-copied : {y : Way} {slots″ : List ℕ} → y ≡ Way.Copied → slots″ ≡ lay (p .place + p .at * width) (read (r .values + p .from * width) (p .count * width) body) slots′ → Steps (copiedBy w b p y) (record { state = s; number = 0 }) slots″ pool books
-    rows-copied {y} {slots″} f z =
-        steps-done (copied-by y ∙ rw (f, values-copied s slots′ pool books rows records body (p .column) (s .place) (p .at) (p .from) (p .count) (x .recorded) (sym cell-at) we z))
+        -- attached
+        module _ (f : source .way ≡ Way.Attached) where
+          not-copied : source .way ≡ Way.Copied → ⊥
+          not-copied z = let g : Way.Attached ≡ Way.Copied = sym f ∙ z in let a : _≡_ {A = ℕ} 0 1 = cc in omega arith
 
-    -- the same, where no state is handed back
-    pub rows-plain : {slots″ : List ℕ} → slots″ ≡ lay (p .place + p .at * width) (read (r .values + p .from * width) (p .count * width) body) slots′ → copiedBy w b p Way.Copied ≡ ok (world s slots″ pool books)
-    rows-plain z = rows-copied refl z .done refl
+          pub rows-any : AnyPart s slots′ books b r p
+          rows-any = any-part (record { part = bits-part; views = views-so not-copied })
 
-    module _ {source : Source} (d : Decided w b (p .column) source) where
-      views-so : (source .way ≡ Way.Copied → ⊥) → isViews s (p .column) ≡ true
-      views-so h = go (isViews s (p .column)) refl
-        where
-          go : (z : Bool) → isViews s (p .column) ≡ z → isViews s (p .column) ≡ true
-          go true e = e
-          go false e = absurd (h (d .plain e))
+          pub rows-attached : {t : Step} {slots″ books″ : List ℕ} → AttachesPart s slots′ books b p t slots″ books″ → Steps (copiedBy w b p (source .way)) t slots″ pool books″
+          rows-attached a = rw (copied-by (source .way), f) (a .steps pool (x .run .fit .pool-is))
 
-      -- attached
-      module _ (f : source .way ≡ Way.Attached) where
-        not-copied : source .way ≡ Way.Copied → ⊥
-        not-copied z = let g : Way.Attached ≡ Way.Copied = sym f ∙ z in let a : _≡_ {A = ℕ} 0 1 = cc in omega arith
+        -- compacted
+        module _ (f : source .way ≡ Way.Compacted) where
+          not-copied′ : source .way ≡ Way.Copied → ⊥
+          not-copied′ z = let g : Way.Compacted ≡ Way.Copied = sym f ∙ z in let a : _≡_ {A = ℕ} 0 1 = cc in omega arith
 
-        pub rows-any : AnyPart s slots′ books b r p
-        rows-any = any-part (record { part = bits-part; views = views-so not-copied })
+          pub rows-views : ViewPart (world s slots′ pool books) b r p
+          rows-views = record { part = bits-part; views = views-so not-copied′ }
 
-        pub rows-attached : {t : Step} {slots″ books″ : List ℕ} → AttachesPart s slots′ books b p t slots″ books″ → Steps (copiedBy w b p (source .way)) t slots″ pool books″
-        rows-attached a = rw (copied-by (source .way), f) (a .steps pool (x .run .fit .pool-is))
+          pub rows-ideal : source .ideal .0 ≡ ideal (world s slots′ pool books) b (p .column)
+          rows-ideal = d .ideal-is (views-so not-copied′) ∙ sym (same-ideal w (world s slots′ pool books) b (on .beside .set-up) (p .column))
 
-      -- compacted
-      module _ (f : source .way ≡ Way.Compacted) where
-        not-copied′ : source .way ≡ Way.Copied → ⊥
-        not-copied′ z = let g : Way.Compacted ≡ Way.Copied = sym f ∙ z in let a : _≡_ {A = ℕ} 0 1 = cc in omega arith
-
-        pub rows-views : ViewPart (world s slots′ pool books) b r p
-        rows-views = record { part = bits-part; views = views-so not-copied′ }
-
-        pub rows-ideal : source .ideal .0 ≡ ideal (world s slots′ pool books) b (p .column)
-        rows-ideal = d .ideal-is (views-so not-copied′) ∙ sym (same-ideal w (world s slots′ pool books) b (on .beside .set-up) (p .column))
-
-        pub rows-compacted : {t : Step} {slots″ pool″ books″ : List ℕ} → Steps (partCompacted (world s slots′ pool books) b (p .column) (p .at) (p .from) (p .count)) t slots″ pool″ books″ → Steps (copiedBy w b p (source .way)) t slots″ pool″ books″
-        rows-compacted a = rw (copied-by (source .way), f) a
+          pub rows-compacted : {t : Step} {slots″ pool″ books″ : List ℕ} → Steps (partCompacted (world s slots′ pool books) b (p .column) (p .at) (p .from) (p .count)) t slots″ pool″ books″ → Steps (copiedBy w b p (source .way)) t slots″ pool″ books″
+          rows-compacted a = rw (copied-by (source .way), f) a

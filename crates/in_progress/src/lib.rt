@@ -6,13 +6,13 @@ ghost use Prim.Native.Nat.{_+_, _*_, _-_, _≤_, _<_};
 ghost use lib.ListN.{length};
 ghost use Rattle.state.specs.declared.OpenBlock.{OpenBlock};
 ghost use Rattle.state.specs.World.{world, columnOf};
-ghost use Rattle.state.specs.Layout.{widthOf, listLength};
+ghost use Rattle.state.specs.Layout.{listLength};
 ghost use Rattle.rules.specs.declared.Way.{Way};
-ghost use Rattle.rules.specs.Batch.{batch, recordOf};
+ghost use Rattle.rules.specs.Batch.{batch};
 ghost use Rattle.rules.specs.Steps.{ok};
 ghost use Rattle.rules.specs.Views.{closed, partCompacted};
 ghost use Rattle.rules.specs.Leaves.{Steps};
-ghost use Rattle.in_progress.specs.Part.{Part, ViewPart, AnyPart, RoomInOpen, Walks, Listable, Decided, firstRows, rowsBehind, longOf, compacting, openedFor, walkedOn, copiedBy, Attaches, AttachesPart, RaisesPart};
+ghost use Rattle.in_progress.specs.Part.{Part, ViewPart, AnyPart, RoomInOpen, Walks, Decided, firstRows, rowsBehind, longOf, compacting, openedFor, walkedOn, copiedBy, AttachesPart, RaisesPart};
 use byte_view::Copying;
 use byte_view::Source;
 use counts::BufferNumber;
@@ -246,30 +246,6 @@ fn append_views_and_copy_strings(
     }
 }
 
-// The whole list of a record behind what is listed in column c of the slot being filled.
-pub fn append_list(
-    s: BatchCoalescer,
-    slots: &mut [u8],
-    books: &mut [u8],
-    records: &[u8],
-    body: &[u8],
-    rows: u32,
-    r: ColumnRecord,
-    c: u32,
-)
-    requires { ⌜ (Listable s (now slots) (now books) (batch rows (now records) (now body)) c) × (r ≡ recordOf (batch rows (now records) (now body)) c) ⌝ }
-    ensures { λ _. ⌜ Attaches s (now (slots .entry)) (now (books .entry)) (batch rows (now (records .entry)) (now (body .entry))) c (now (slots .exit)) (now (books .exit)) ⌝ }
-{
-    let n = slot_counts::list_length(s, books, s.place, c);
-    let place = layout::list_place(s, s.place, c);
-    let from = r.list as usize;
-    let size = 4 * (r.count as usize);
-    let end = from + size;
-    words::put_part(slots, place + 4 * (n as usize), body, from, size);
-    listings::list_all(books, s.numbers, &body[from..end], r.count as usize);
-    slot_counts::put_list_length(s, books, c, n + r.count);
-}
-
 // The list of a part's column behind k numbers, and the part's views with k added to their index.
 fn attach_list(
     s: BatchCoalescer,
@@ -286,7 +262,7 @@ fn attach_list(
         × (k ≡ listLength (world s [] [] (now books)) (s .place) (p .column)) ⌝ }
     ensures { λ _. ⌜ RaisesPart s (now (slots .entry)) (now (books .entry)) (batch rows (now (records .entry)) (now (body .entry))) k p (now (slots .exit)) (now (books .exit)) ⌝ }
 {
-    append_list(s, slots, books, records, body, rows, r, p.column);
+    lists::append_list(s, slots, books, records, body, rows, r, p.column);
     let to = p.place + (p.at as usize) * 16;
     let from = (r.values as usize) + (p.from as usize) * 16;
     byte_view::append_views_and_update_buffer_index(slots, to, body, from, p.count, k);
@@ -322,31 +298,6 @@ fn attach(
     }
 }
 
-// A part of a column that is copied as it stands. It changes no state, so none is handed back: the state is 300 bytes, and copying it for each
-// column of numbers cost as much as the numbers.
-pub fn copy_plain(
-    s: BatchCoalescer,
-    slots: &mut [u8],
-    pool: &[u8],
-    books: &[u8],
-    records: &[u8],
-    body: &[u8],
-    rows: u32,
-    r: ColumnRecord,
-    width: usize,
-    p: Rows,
-)
-    requires { ⌜ (Part (world s (now slots) (now pool) (now books)) (batch rows (now records) (now body)) r p)
-        × (width ≡ widthOf s (p .column)) × (width ≤ 32) ⌝ }
-    ensures { λ _. ⌜ copiedBy (world s (now (slots .entry)) (now (pool .entry)) (now (books .entry))) (batch rows (now (records .entry)) (now (body .entry))) p Way.Copied
-        ≡ ok (world s (now (slots .exit)) (now (pool .entry)) (now (books .entry))) ⌝ }
-{
-    let begin = p.place + (s.rows.0 as usize) * width;
-    let size = layout::bitmap_bytes(s);
-    primitive::copy_validity(slots, begin, size, body, r, p);
-    primitive::copy_values(slots, body, r, width, p);
-}
-
 // copy_rows: a part of a batch into column c of the slot being filled, the way that was decided.
 pub fn copy_rows(
     s: BatchCoalescer,
@@ -368,19 +319,22 @@ pub fn copy_rows(
     let width = layout::width_of(s, p.column);
     let begin = p.place + (s.rows.0 as usize) * width;
     let size = layout::bitmap_bytes(s);
-    primitive::copy_validity(slots, begin, size, body, r, p);
     let way = source.way;
     match way {
         Way::Copied => {
-            primitive::copy_values(slots, body, r, width, p);
+            primitive::copy_rows(slots, begin, size, body, r, width, p);
             Step {
                 state: s,
                 number: 0,
             }
         }
-        Way::Attached => attach(s, slots, books, records, body, rows, r, p),
+        Way::Attached => {
+            primitive::copy_validity(slots, begin, size, body, r, p);
+            attach(s, slots, books, records, body, rows, r, p)
+        }
         Way::Compacted => {
             let ideal = source.ideal;
+            primitive::copy_validity(slots, begin, size, body, r, p);
             append_views_and_copy_strings(s, slots, pool, books, records, body, rows, r, p, ideal)
         }
     }

@@ -2,7 +2,6 @@
 use Prim.Native.Nat.{ℕ, _+_, _*_, _≤_, _<_}
 use mathlib.Core.Path.{_≡_, refl, sym, _∙_, ap}
 use mathlib.Core.Logic.{_≢_}
-use mathlib.Core.Bool.{true}
 use mathlib.Core.List.{List, []}
 use native.Mathlib.Omega.{arith}
 use lib.ListN.{length}
@@ -22,8 +21,7 @@ use Rattle.state.specs.declared.BatchCoalescer.{BatchCoalescer}
 use Rattle.state.specs.declared.Column.{Column}
 use Rattle.state.specs.declared.OpenBlock.{OpenBlock}
 use Rattle.state.specs.World.{world, columnOf}
-use Rattle.state.specs.Layout.{isViews, slotsLength, listPlace, listLength, tally}
-use Rattle.layout.specs.PlaceLaws.{entry-below}
+use Rattle.state.specs.Layout.{listPlace, listLength, tally}
 use Rattle.rules.specs.Steps.{ok, refuse, withColumn, counting, listing}
 use Rattle.rules.specs.Views.{blockNumber, openNumber, closed, opening, blockOpened}
 use Rattle.rules.specs.Held.{among-not}
@@ -37,18 +35,6 @@ use Rattle.open_blocks.specs.Open.{ClosesBlock, OpensNext, OpensBlock}
 pub length-put : (books : List ℕ) (i n : ℕ) {t : List ℕ} → t ≡ withWord32 books (12 + 20 * i) n → t ≡ withLength books i n
 unfolding withLength
 length-put books i n e = let q : 12 + 20 * i ≡ 4 + 20 * i + 8 = omega arith in e ∙ ap (λ (k : ℕ). withWord32 books k n) q
-
--- ---- list_number
-
-module _ (s : BatchCoalescer) (slots books : List ℕ) (c number : ℕ) {n place : ℕ} (e : n ≡ listLength (world s [] [] books) (s .place) c) (p : place ≡ listPlace s (s .place) c) where
-  pub number-room : listLength (world s [] [] books) (s .place) c < s .lists → isViews s c ≡ true → s .place ≤ s .queue → c < s .columns → length slots ≡ slotsLength s → place + 4 * n + 4 ≤ length slots
-  number-room l v h k z = rw (e, p) (entry-below s h k z v l)
-
-  pub number-put : {t : List ℕ} → t ≡ withWord32 slots (place + 4 * n) number → t ≡ withWord32 slots (listPlace s (s .place) c + 4 * listLength (world s [] [] books) (s .place) c) number
-  number-put q = rw (← e, ← p) q
-
-  pub number-counted : {t : List ℕ} → t ≡ withTally books (tally s (s .place) (c + 1)) (n + 1) → t ≡ withTally books (tally s (s .place) (c + 1)) (listLength (world s [] [] books) (s .place) c + 1)
-  number-counted q = rw (← e) q
 
 -- ---- finish_current
 

@@ -2,35 +2,16 @@
 // From arrow-select 60.0.0, src/coalesce/byte_view.rs: `InProgressByteViewArray::finish_current`, and `BufferSource::next_buffer`.
 ghost use mathlib.Core.Path.{_≡_};
 ghost use mathlib.Core.Bool.{true};
-ghost use mathlib.Core.List.{[]};
 ghost use Prim.Native.Nat.{_+_, _*_, _≤_, _<_};
 ghost use lib.ListN.{length};
-ghost use Rattle.words.specs.Word.{withWord32};
-ghost use Rattle.tallies.specs.Tally.{withTally};
 ghost use Rattle.sound.specs.Change.{withLength};
-ghost use Rattle.state.specs.World.{world};
-ghost use Rattle.state.specs.Layout.{isViews, listPlace, listLength, slotsLength, booksLength, tally};
-ghost use Rattle.layout.specs.Few.{Few};
+ghost use Rattle.state.specs.Layout.{isViews};
 ghost use Rattle.open_blocks.specs.Open.{Booked, FillingViews, ClosesBlock, OpensNext, OpensBlock};
-use counts::BufferNumber;
 use counts::ByteSum;
 use room::Chosen;
 use rules::Step;
 use state::BatchCoalescer;
 use state::OpenBlock;
-
-// A number at the end of the list of column c of the slot being filled.
-fn list_number(s: BatchCoalescer, slots: &mut [u8], books: &mut [u8], c: u32, number: BufferNumber)
-    requires { ⌜ (Few s) × (s .place ≤ s .queue) × (c < s .columns) × (isViews s c ≡ true) × (length (now slots) ≡ slotsLength s) × (length (now books) ≡ booksLength s)
-        × (listLength (world s [] [] (now books)) (s .place) c < s .lists) ⌝ }
-    ensures { λ _. ⌜ (now (slots .exit) ≡ withWord32 (now (slots .entry)) (listPlace s (s .place) c + 4 * listLength (world s [] [] (now (books .entry))) (s .place) c) (number .0))
-        × (now (books .exit) ≡ withTally (now (books .entry)) (tally s (s .place) (c + 1)) (listLength (world s [] [] (now (books .entry))) (s .place) c + 1)) ⌝ }
-{
-    let n = slot_counts::list_length(s, books, s.place, c);
-    let place = layout::list_place(s, s.place, c);
-    words::put32(slots, place + 4 * (n as usize), number.0);
-    slot_counts::put_list_length(s, books, c, n + 1);
-}
 
 // finish_current: the open block joins its list, if there is one.
 pub fn finish_current(
@@ -47,7 +28,7 @@ pub fn finish_current(
     match block {
         OpenBlock::Closed => s,
         OpenBlock::Number(k) => {
-            list_number(s, slots, books, c, k);
+            lists::list_number(s, slots, books, c, k);
             columns::with_column(s, c, column.source, OpenBlock::Closed)
         }
     }

@@ -17,12 +17,12 @@ use Rattle.bits.specs.Bits.{bitsFrom, ones, appended}
 use Rattle.bits.specs.BitLaws.{length-appended, appended-ext, run-later, ones-bit}
 use Rattle.state.specs.declared.BatchCoalescer.{BatchCoalescer}
 use Rattle.state.specs.World.{world}
-use Rattle.state.specs.Layout.{widthOf, valuesBytes, bitmapBytes, valuesPlace, bitmapPlace, cellPlace}
+use Rattle.state.specs.Layout.{widthOf, bitmapBytes, bitmapPlace, cellPlace}
 use Rattle.rules.specs.declared.ColumnRecord.{ColumnRecord}
 use Rattle.rules.specs.Batch.{batch, recordOf, hasBitmap, bitOf}
 use Rattle.rules.specs.Views.{bitsLaid, valuesLaid, bitsCopied, valuesCopied}
 use Rattle.primitive.specs.declared.Rows.{Rows}
-use Rattle.primitive.specs.Fits.{bitsOf, Bitmapped, Valued}
+use Rattle.primitive.specs.Fits.{bitsOf, rowsLaid, Bitmapped, Valued}
 
 -- ---- a part that is lent and comes back
 
@@ -116,6 +116,19 @@ module _ (slots : List ℕ) (r : ColumnRecord) (body : List ℕ) (w : ℕ) (p : 
       let m : length run ≡ p .count * w = length-read (r .values + p .from * w) (p .count * w) body values-in in
       let q : p .place + p .at * w + length run ≤ length slots = omega (arith, m, cells-there) in
       e ∙ sym (lay-put (p .place + p .at * w) run slots q)
+
+-- ---- both
+
+-- slots of the same length
+pub valued-same : {L M : ℕ} {r : ColumnRecord} {n w : ℕ} {p : Rows} → M ≡ L → Valued L r n w p → Valued M r n w p
+valued-same e fits = rw e fits
+
+pub both-laid : (slots : List ℕ) (begin size : ℕ) (r : ColumnRecord) (body : List ℕ) (w : ℕ) (p : Rows) {t u : List ℕ}
+    → t ≡ lay begin (appended (read begin size slots) (p .at) (bitsOf r body (p .from)) (p .count)) slots
+    → u ≡ lay (p .place + p .at * w) (read (r .values + p .from * w) (p .count * w) body) t
+    → u ≡ rowsLaid begin size r body w p slots
+both-laid slots begin size r body w p e f =
+    f ∙ ap (lay (p .place + p .at * w) (read (r .values + p .from * w) (p .count * w) body)) e
 
 -- ---- the same of worlds, over the memories, the batch and the record that the code has
 

@@ -1,12 +1,12 @@
 // Values and validity of a column: runs of bytes and of bits put behind the rows of a slot.
 // From arrow-select 60.0.0, src/coalesce/primitive.rs: `InProgressPrimitiveArray::copy_rows`. Columns of views whose bytes need no change
-// use the same two functions. They know places in memory, and no state.
+// use the same functions. They know places in memory, and no state.
 ghost use mathlib.Core.Path.{_≡_};
-ghost use Prim.Native.Nat.{_+_, _*_, _-_, _≤_, _<_};
+ghost use Prim.Native.Nat.{_+_, _*_};
 ghost use lib.ListN.{length};
 ghost use Rattle.words.specs.Run.{read, lay};
 ghost use Rattle.bits.specs.Bits.{appended};
-ghost use Rattle.primitive.specs.Fits.{bitsOf, Bitmapped, Valued};
+ghost use Rattle.primitive.specs.Fits.{bitsOf, rowsLaid, Bitmapped, Valued};
 use rules::ColumnRecord;
 
 // Which rows go where: `count` rows of the batch from row `from` on, behind the first `at` rows of a column that begins at `place` of the
@@ -57,4 +57,21 @@ pub fn copy_values(slots: &mut [u8], body: &[u8], r: ColumnRecord, width: usize,
     let to = p.place + (p.at as usize) * width;
     let from = (r.values as usize) + (p.from as usize) * width;
     words::put_part(slots, to, body, from, (p.count as usize) * width);
+}
+
+// Both, of a column that is copied as it stands.
+pub fn copy_rows(
+    slots: &mut [u8],
+    begin: usize,
+    size: usize,
+    body: &[u8],
+    r: ColumnRecord,
+    width: usize,
+    p: Rows,
+)
+    requires { ⌜ (Bitmapped (length (now slots)) begin size r (length (now body)) p) × (Valued (length (now slots)) r (length (now body)) width p) ⌝ }
+    ensures { λ _. ⌜ now (slots .exit) ≡ rowsLaid begin size r (now (body .entry)) width p (now (slots .entry)) ⌝ }
+{
+    copy_validity(slots, begin, size, body, r, p);
+    copy_values(slots, body, r, width, p);
 }

@@ -11,8 +11,9 @@ use Rattle.rules.specs.Calls.{Answered, RegisterAnswer}
 use Rattle.rules.specs.Calls as calls
 use Rattle.trial_truth.specs.Like.{OwnBlocks}
 use Rattle.finishing.specs.Finish.{answered}
-use Rattle.coalesce.specs.declared.Verdict.{Verdict}
-use Rattle.coalesce.specs.Push.{verdictOf, Orderly, Pushes}
+use Rattle.judging.specs.declared.Verdict.{Verdict}
+use Rattle.judging.specs.Judging.{verdictOf}
+use Rattle.coalesce.specs.Push.{Orderly, Pushes}
 use Rattle.completed.specs.declared.Dropped.{Dropped}
 use Rattle.completed.specs.Drop.{Drops}
 use Rattle.set_up.specs.SetUp.{SetsUp}

@@ -3,3 +3,4 @@ pub mod Sourced
 pub mod SourcedLaws
 pub mod Route
 pub mod RouteLaws
+pub mod TurnLaws

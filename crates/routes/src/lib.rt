@@ -1,18 +1,15 @@
-// What is decided of a push before it is tried or done: of each column, and which way the batch goes; and queueing whole, which is tried as it is done.
+// What is decided of a push before it is tried or done: of each column, and which way the batch goes.
 // From arrow-select 60.0.0, src/coalesce.rs: the first lines of `push_batch`.
 ghost use mathlib.Core.Path.{_≡_};
-ghost use Prim.Native.Nat.{_+_, _*_, _≤_, _<_};
+ghost use Prim.Native.Nat.{_+_, _<_};
 ghost use mathlib.Core.List.{[]};
 ghost use lib.ListN.{length};
-ghost use Rattle.layout.specs.Few.{Few};
 ghost use Rattle.state.specs.World.{world};
-ghost use Rattle.state.specs.Layout.{booksLength, nextSlot};
 ghost use Rattle.rules.specs.Batch.{batch};
 ghost use Rattle.rules.specs.Push.{overLimit};
-ghost use Rattle.rules.specs.Steps.{withCounts};
 ghost use Rattle.columns.specs.Pushing.{Pushing};
 ghost use Rattle.routes.specs.Sourced.{Sourced};
-ghost use Rattle.routes.specs.Route.{routeOf, wholeRefusal};
+ghost use Rattle.routes.specs.Route.{routeOf};
 use byte_view::Source;
 use counts::ByteSum;
 use counts::RowCount;
@@ -57,27 +54,6 @@ pub fn set_sources(
         c += 1;
     }
     all
-}
-
-// Queueing whole: 9, then 10 by columns.
-pub fn try_whole(s: BatchCoalescer, books: &[u8], records: &[u8]) -> u32
-    requires { ⌜ (Few s) × (s .place ≤ s .queue) × (length (now books) ≡ booksLength s)
-        × (length (now records) ≡ 32 * s .columns) ⌝ }
-    ensures { λ r. ⌜ r ≡ wholeRefusal (world s [] [] (now (books .entry))) (batch 0 (now (records .entry)) []) ⌝ }
-{
-    if s.queue <= s.queued {
-        return 9;
-    }
-    let mut c: u32 = 0;
-    while c < s.columns {
-        let n = slot_counts::list_length(s, books, s.place, c);
-        let count = records::record_at(records, c).count;
-        if (s.lists as u64) < (n as u64) + (count as u64) {
-            return 10;
-        }
-        c += 1;
-    }
-    0
 }
 
 // Step 2: which way a batch of so many rows goes.

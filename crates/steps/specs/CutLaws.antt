@@ -7,7 +7,7 @@ use Rattle.state.specs.World.{World, world}
 use Rattle.rules.specs.Batch.{Batch}
 use Rattle.rules.specs.Steps.{Res, ok, refuse, bind}
 use Rattle.rules.specs.Push.{finished, partTaken, space, ifFull, coalesced}
-use Rattle.rules.specs.StepLaws.{coalesced-turn, coalesced-last}
+use Rattle.rules.specs.StepLaws.{coalesced-turn}
 use Rattle.rules.specs.Held.{holds-ok}
 use Rattle.rules.specs.Stays.{SameSetUp, same-refl, same-trans}
 use Rattle.rules.specs.PushLaws.{Ends, taken-holds, finished-holds}
@@ -19,6 +19,7 @@ use Rattle.push_safety.specs.FinishGoes.{rows-small, finished-goes}
 use Rattle.rules.specs.declared.Step.{Step}
 use Rattle.rules.specs.Leaves.{Steps}
 use Rattle.routes.specs.declared.Sources.{Sources}
+use Rattle.routes.specs.TurnLaws.{full-turn, ends-cut}
 use Rattle.steps.specs.Taking.{Taking, TakesThen, Cutting}
 
 -- the rows before `from` are taken, and the slot is not full; cutting the rest from here gives what the whole gives
@@ -35,12 +36,6 @@ pub record CutTo (w₀ : World) (b : Batch) (from : ℕ) (w : World) : Type 0 wh
 bind-first : (r : Res) (f : World → Res) {v : World} → bind r f ≡ ok v → (P : Type 0) → ((u : World) → r ≡ ok u → f u ≡ ok v → P) → P
 bind-first (ok u) f e P k = k u refl e
 bind-first (refuse n) f {v} e P k = let z : _≡_ {A = ℕ} 0 1 = cc in absurd (omega arith)
-
--- where the loop ends, with or without a turn left
-ends-cut : (turns : ℕ) (w₀ w : World) (b : Batch) (from : ℕ) → b .rows - from ≤ space w → coalesced turns w₀ w b from ≡ bind (partTaken w₀ w b from (b .rows - from)) ifFull
-unfolding coalesced
-ends-cut zero w₀ w b from l = refl
-ends-cut (suc turns) w₀ w b from l = coalesced-last turns w₀ w b from l
 
 module _ {w₀ : World} {b : Batch} {x : Sources} (a : Cutting w₀ b x) where
   pub cut-rows : b .rows ≤ 65536
@@ -78,15 +73,15 @@ module _ {w₀ : World} {b : Batch} {x : Sources} (a : Cutting w₀ b x) where
     pub last-asks : b .rows - from ≤ w .state .target .0 - w .state .buffered .0 → Taking w b x from (b .rows - from)
     last-asks l = taking (b .rows - from) (omega (arith, k .inside)) l
 
-    pub cut-last : {q : Step} {slots pool books : List ℕ} → b .rows - from ≤ w .state .target .0 - w .state .buffered .0 → TakesThen ifFull w b x from (b .rows - from) q slots pool books → Steps (coalesced (b .rows) w₀ w₀ b 0) q slots pool books
+    pub cut-last : {q : Step} {slots pool books : List ℕ} → b .rows - from ≤ w .state .target .0 - w .state .buffered .0 → TakesThen w b x from (b .rows - from) q slots pool books → Steps (coalesced (b .rows) w₀ w₀ b 0) q slots pool books
     cut-last {q} {slots} {pool} {books} l t =
         let e : coalesced (b .rows) w₀ w₀ b 0 ≡ bind (partTaken w₀ w b from (b .rows - from)) ifFull = k .cut ∙ ends-cut (k .turns) w₀ w b from l in
         let s : Steps (bind (partTaken w₀ w b from (b .rows - from)) ifFull) q slots pool books = t .steps w₀ (k .same) (a .sourced) in
         record { done = λ d. e ∙ s .done d; not = λ d. e ∙ s .not d }
 
-    module _ (l : w .state .target .0 - w .state .buffered .0 < b .rows - from) {q : Step} {slots pool books : List ℕ} (t : TakesThen finished w b x from (w .state .target .0 - w .state .buffered .0) q slots pool books) where
+    module _ (l : w .state .target .0 - w .state .buffered .0 < b .rows - from) {q : Step} {slots pool books : List ℕ} (t : TakesThen w b x from (w .state .target .0 - w .state .buffered .0) q slots pool books) where
       turn : Steps (bind (partTaken w₀ w b from (space w)) finished) q slots pool books
-      turn = t .steps w₀ (k .same) (a .sourced)
+      turn = rw (← full-turn w₀ w b from (space w) (omega (arith, k .below))) (t .steps w₀ (k .same) (a .sourced))
 
       -- a turn is left
       one-turn : (P : Type 0) → ((turns : ℕ) → k .turns ≡ suc turns → P) → P

@@ -1,7 +1,5 @@
 -- What the steps of a push ask and leave, and the laws that the proofs cite.
 pub mod Taking
-pub mod PlaceLaws
 pub mod PartLaws
 pub mod CutLaws
-pub mod WholeLaws
-pub mod QueueLaws
+pub mod PushLaws

@@ -17,7 +17,7 @@ use Rattle.rules.specs.declared.Way.{Way}
 use Rattle.rules.specs.Batch.{Batch, batch, recordOf, way}
 use Rattle.rules.specs.Steps.{Res, ok, refuse, bind, forEach, withCounts, buffering}
 use Rattle.rules.specs.Views.{columnCopied, partCopied}
-use Rattle.rules.specs.Push.{finished, partTaken, ifFull}
+use Rattle.rules.specs.Push.{partTaken, ifFull}
 use Rattle.rules.specs.Held.{holds-ok}
 use Rattle.rules.specs.Stays.{SameSetUp, same-trans}
 use Rattle.rules.specs.SameLaws.{same-values-place}
@@ -36,7 +36,7 @@ use Rattle.in_progress.specs.Part.{Part, Decided, copiedBy}
 use Rattle.open_blocks.specs.AskLaws.{run-booked}
 use Rattle.in_progress.specs.CallerLaws.{part-of, decided-at, copied-is}
 use Rattle.finishing.specs.Finish.{Closable, Finishes}
-use Rattle.finishing.specs.AnswerLaws.{finished-steps, full-steps}
+use Rattle.finishing.specs.AnswerLaws.{full-steps}
 use Rattle.steps.specs.Taking.{Taking, Takes, TakesThen}
 
 -- ---- folds that may refuse
@@ -193,17 +193,14 @@ module _ {w : World} {b : Batch} {x : Sources} {from n : ℕ} (a : Taking w b x 
       all : (w₀ : World) → forEach c (λ u i. columnCopied w₀ u b i from n) w ≡ ok (world t slots pool books) → forEach (w .state .columns) (λ u i. columnCopied w₀ u b i from n) w ≡ ok (world t slots pool books)
       all w₀ e = let q : w .state .columns ≡ c = omega arith in ap (λ (i : ℕ). forEach i (λ u j. columnCopied w₀ u b j from n) w) q ∙ e
 
--- ---- copy_full and copy_last
+-- ---- copy_and_finish
 
 module _ {w : World} {b : Batch} {x : Sources} {from n : ℕ} {q : Step} {slots pool books : List ℕ} (k : Takes w b x from n q slots pool books) where
-  pub taken-stop : {f : World → Res} → (q .number ≡ 0 → ⊥) → TakesThen f w b x from n q slots pool books
-  taken-stop {f} o = record { steps = λ w₀ e s. steps-stop f (k .steps w₀ e s) o }
+  pub taken-stop : (q .number ≡ 0 → ⊥) → TakesThen w b x from n q slots pool books
+  taken-stop o = record { steps = λ w₀ e s. steps-stop ifFull (k .steps w₀ e s) o }
 
   module _ (o : q .number ≡ 0) where
-    pub taken-finished : {r : Step} {slots′ books′ : List ℕ} → Finishes finished (q .state) slots books r slots′ books′ → TakesThen finished w b x from n r slots′ pool books′
-    taken-finished {r} {slots′} {books′} f = record { steps = λ w₀ e s. steps-next finished (k .steps w₀ e s) o (finished-steps pool f) }
-
-    pub taken-full : {r : Step} {slots′ books′ : List ℕ} → Finishes ifFull (q .state) slots books r slots′ books′ → TakesThen ifFull w b x from n r slots′ pool books′
+    pub taken-full : {r : Step} {slots′ books′ : List ℕ} → Finishes ifFull (q .state) slots books r slots′ books′ → TakesThen w b x from n r slots′ pool books′
     taken-full {r} {slots′} {books′} f = record { steps = λ w₀ e s. steps-next ifFull (k .steps w₀ e s) o (full-steps pool f) }
 
     module _ (a : Taking w b x from n) where

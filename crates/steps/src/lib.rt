@@ -1,21 +1,20 @@
-// The steps of a push, once there is room for all of them: parts copied and finished, a batch queued whole.
-// From arrow-select 60.0.0, src/coalesce.rs: the body of `push_batch`, and `finish_buffered_batch`.
+// The steps of a push, once there is room for all of them: parts copied and finished, or a batch queued whole.
+// From arrow-select 60.0.0, src/coalesce.rs: the body of `push_batch`.
 ghost use mathlib.Core.Path.{_≡_};
-ghost use Prim.Native.Nat.{_+_, _≤_, _<_};
+ghost use Prim.Native.Nat.{_+_, _<_};
 ghost use mathlib.Core.List.{[]};
 ghost use lib.ListN.{length};
 ghost use Rattle.state.specs.World.{world, columnOf};
-ghost use Rattle.state.specs.Layout.{valuesPlace, slotsLength};
-ghost use Rattle.layout.specs.Few.{Few};
+ghost use Rattle.state.specs.Layout.{slotsLength};
 ghost use Rattle.rules.specs.Batch.{batch, recordOf};
 ghost use Rattle.rules.specs.declared.Way.{Way};
 ghost use Rattle.rules.specs.Steps.{ok};
-ghost use Rattle.rules.specs.Push.{finished, ifFull, coalesced, stepped};
+ghost use Rattle.rules.specs.Push.{coalesced, stepped};
 ghost use Rattle.columns.specs.Pushing.{Pushing};
 ghost use Rattle.rules.specs.Leaves.{Steps};
 ghost use Rattle.routes.specs.Sourced.{Sourced};
 ghost use Rattle.in_progress.specs.Part.{Part, Decided, copiedBy};
-ghost use Rattle.steps.specs.Taking.{Taking, Takes, TakesThen, Cutting, Rowed, LaysRows, Columned, LaysColumn, Wholly, LaysColumns, Asks, QueuesWhole, QueuesFirst};
+ghost use Rattle.steps.specs.Taking.{Taking, Takes, TakesThen, Cutting};
 use byte_view::Source;
 use counts::RowCount;
 use primitive::Rows;
@@ -25,16 +24,6 @@ use rules::ColumnRecord;
 use rules::Step;
 use rules::Way;
 use state::BatchCoalescer;
-
-// Where the next column of the slot being filled begins.
-fn next_place(s: BatchCoalescer, c: u32, place: usize) -> usize
-    requires { ⌜ (Few s) × (s .place ≤ s .queue) × (c < s .columns) × (place ≡ valuesPlace s (s .place) c) ⌝ }
-    ensures { λ r. ⌜ r ≡ valuesPlace s (s .place) (c + 1) ⌝ }
-{
-    let at = c as usize;
-    let column = s.column[at];
-    place + layout::column_size(column.kind, s.rows.0, s.lists)
-}
 
 // Rows of one column, copied.
 fn copy_column(
@@ -57,7 +46,8 @@ fn copy_column(
     in_progress::copy_rows(s, slots, pool, books, records, body, rows, r, source, p)
 }
 
-// Rows of one column that is copied as it stands: no state is changed, and none is handed back.
+// Rows of one column that is copied as it stands. It changes no state, so none is handed back: the state is 300 bytes, and copying it for each
+// column of numbers cost as much as the numbers.
 fn copy_as_is(
     s: BatchCoalescer,
     slots: &mut [u8],
@@ -76,7 +66,9 @@ fn copy_as_is(
 {
     let r = records::record_at(records, p.column);
     let width = layout::width_in(kind);
-    in_progress::copy_plain(s, slots, pool, books, records, body, rows, r, width, p);
+    let begin = p.place + (s.rows.0 as usize) * width;
+    let size = layout::bitmap_bytes(s);
+    primitive::copy_rows(slots, begin, size, body, r, width, p);
 }
 
 // n rows of every column from row `from` on, copied and buffered.
@@ -134,8 +126,8 @@ fn copy_part(
     }
 }
 
-// A part that fills the slot, then finishing.
-fn copy_full(
+// A part, then finishing if the slot is full.
+fn copy_and_finish(
     s: BatchCoalescer,
     slots: &mut [u8],
     pool: &mut [u8],
@@ -148,33 +140,7 @@ fn copy_full(
     n: u32,
 ) -> Step
     requires { ⌜ Taking (world s (now slots) (now pool) (now books)) (batch rows (now records) (now body)) sources from n ⌝ }
-    ensures { λ q. ⌜ TakesThen finished (world s (now (slots .entry)) (now (pool .entry)) (now (books .entry))) (batch rows (now (records .entry)) (now (body .entry))) sources from n
-        q (now (slots .exit)) (now (pool .exit)) (now (books .exit)) ⌝ }
-{
-    let step = copy_part(s, slots, pool, books, records, body, rows, sources, from, n);
-    if step.number == 0 {
-        let t = step.state;
-        finishing::finish(t, slots, books)
-    } else {
-        step
-    }
-}
-
-// The last part, then finishing if the slot is full.
-fn copy_last(
-    s: BatchCoalescer,
-    slots: &mut [u8],
-    pool: &mut [u8],
-    books: &mut [u8],
-    records: &[u8],
-    body: &[u8],
-    rows: u32,
-    sources: Sources,
-    from: u32,
-    n: u32,
-) -> Step
-    requires { ⌜ Taking (world s (now slots) (now pool) (now books)) (batch rows (now records) (now body)) sources from n ⌝ }
-    ensures { λ q. ⌜ TakesThen ifFull (world s (now (slots .entry)) (now (pool .entry)) (now (books .entry))) (batch rows (now (records .entry)) (now (body .entry))) sources from n
+    ensures { λ q. ⌜ TakesThen (world s (now (slots .entry)) (now (pool .entry)) (now (books .entry))) (batch rows (now (records .entry)) (now (body .entry))) sources from n
         q (now (slots .exit)) (now (pool .exit)) (now (books .exit)) ⌝ }
 {
     let step = copy_part(s, slots, pool, books, records, body, rows, sources, from, n);
@@ -205,7 +171,7 @@ fn coalesce_rows(
     let mut from: u32 = 0;
     while t.target.0 - t.buffered.0 < rows - from {
         let n = t.target.0 - t.buffered.0;
-        let step = copy_full(t, slots, pool, books, records, body, rows, sources, from, n);
+        let step = copy_and_finish(t, slots, pool, books, records, body, rows, sources, from, n);
         if step.number == 0 {
             t = step.state;
         } else {
@@ -213,7 +179,7 @@ fn coalesce_rows(
         }
         from += n;
     }
-    copy_last(
+    copy_and_finish(
         t,
         slots,
         pool,
@@ -225,120 +191,6 @@ fn coalesce_rows(
         from,
         rows - from,
     )
-}
-
-// Values and validity of column c of a whole batch in the slot being filled, views unchanged.
-fn lay_rows(
-    s: BatchCoalescer,
-    slots: &mut [u8],
-    records: &[u8],
-    body: &[u8],
-    rows: u32,
-    r: ColumnRecord,
-    c: u32,
-    place: usize,
-)
-    requires { ⌜ (Rowed s (now slots) (batch rows (now records) (now body)) c place) × (r ≡ recordOf (batch rows (now records) (now body)) c) ⌝ }
-    ensures { λ _. ⌜ LaysRows s (now (slots .entry)) (batch rows (now (records .entry)) (now (body .entry))) c (now (slots .exit)) ⌝ }
-{
-    let p = Rows {
-        column: c,
-        place,
-        at: 0,
-        from: 0,
-        count: rows,
-    };
-    let width = layout::width_of(s, c);
-    let begin = place + (s.rows.0 as usize) * width;
-    let size = layout::bitmap_bytes(s);
-    primitive::copy_validity(slots, begin, size, body, r, p);
-    primitive::copy_values(slots, body, r, width, p);
-}
-
-// Column c of a whole batch in the slot being filled: views unchanged, the list as given.
-fn copy_whole(
-    s: BatchCoalescer,
-    slots: &mut [u8],
-    books: &mut [u8],
-    records: &[u8],
-    body: &[u8],
-    rows: u32,
-    c: u32,
-    place: usize,
-)
-    requires { ⌜ Columned s (now slots) (now books) (batch rows (now records) (now body)) c place ⌝ }
-    ensures { λ _. ⌜ LaysColumn s (now (slots .entry)) (now (books .entry)) (batch rows (now (records .entry)) (now (body .entry))) c (now (slots .exit)) (now (books .exit)) ⌝ }
-{
-    let r = records::record_at(records, c);
-    lay_rows(s, slots, records, body, rows, r, c, place);
-    in_progress::append_list(s, slots, books, records, body, rows, r, c);
-}
-
-// Every column of it.
-fn copy_columns(
-    s: BatchCoalescer,
-    slots: &mut [u8],
-    books: &mut [u8],
-    records: &[u8],
-    body: &[u8],
-    rows: u32,
-)
-    requires { ⌜ Wholly s (now slots) (now books) (batch rows (now records) (now body)) ⌝ }
-    ensures { λ _. ⌜ LaysColumns s (now (slots .entry)) (now (books .entry)) (batch rows (now (records .entry)) (now (body .entry))) (s .columns) (now (slots .exit)) (now (books .exit)) ⌝ }
-{
-    let mut place = layout::values_place(s, s.place, 0);
-    let mut c: u32 = 0;
-    while c < s.columns {
-        copy_whole(s, slots, books, records, body, rows, c, place);
-        place = next_place(s, c, place);
-        c += 1;
-    }
-}
-
-// A batch queued whole: 9, then 10 by columns.
-fn queue_whole(
-    s: BatchCoalescer,
-    slots: &mut [u8],
-    books: &mut [u8],
-    records: &[u8],
-    body: &[u8],
-    rows: u32,
-) -> Step
-    requires { ⌜ Asks s (now slots) (now books) (batch rows (now records) (now body)) ⌝ }
-    ensures { λ q. ⌜ QueuesWhole s (now (slots .entry)) (now (books .entry)) (batch rows (now (records .entry)) (now (body .entry))) q (now (slots .exit)) (now (books .exit)) ⌝ }
-{
-    let number = routes::try_whole(s, books, records);
-    if number == 0 {
-        copy_columns(s, slots, books, records, body, rows);
-        let t = finishing::queue_slot(s, books, rows);
-        Step {
-            state: t,
-            number: 0,
-        }
-    } else {
-        Step { state: s, number }
-    }
-}
-
-// Finishing, then the batch queued whole.
-fn finish_first(
-    s: BatchCoalescer,
-    slots: &mut [u8],
-    books: &mut [u8],
-    records: &[u8],
-    body: &[u8],
-    rows: u32,
-) -> Step
-    requires { ⌜ Asks s (now slots) (now books) (batch rows (now records) (now body)) ⌝ }
-    ensures { λ q. ⌜ QueuesFirst s (now (slots .entry)) (now (books .entry)) (batch rows (now (records .entry)) (now (body .entry))) q (now (slots .exit)) (now (books .exit)) ⌝ }
-{
-    let step = finishing::finish(s, slots, books);
-    if step.number == 0 {
-        let t = step.state;
-        queue_whole(t, slots, books, records, body, rows)
-    } else {
-        step
-    }
 }
 
 // Steps 2 to 4 of a push.
@@ -360,7 +212,7 @@ pub fn push_rows(
     let route = routes::route_of(s, rows);
     match route {
         Route::Coalesce => coalesce_rows(s, slots, pool, books, records, body, rows, sources),
-        Route::Whole => queue_whole(s, slots, books, records, body, rows),
-        Route::FinishFirst => finish_first(s, slots, books, records, body, rows),
+        Route::Whole => whole::queue_whole(s, slots, books, records, body, rows),
+        Route::FinishFirst => whole::finish_first(s, slots, books, records, body, rows),
     }
 }

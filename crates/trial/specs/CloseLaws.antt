@@ -9,7 +9,6 @@ use lib.ListN.{getD}
 use Rattle.search.specs.Cases.{by-cond}
 use Rattle.kinds.specs.Kind.{isView}
 use Rattle.words.specs.FrameLaws.{framed-refl}
-use Rattle.counts.specs.declared.BufferNumber.{BufferNumber}
 use Rattle.state.specs.declared.BatchCoalescer.{BatchCoalescer}
 use Rattle.state.specs.declared.Column.{Column}
 use Rattle.state.specs.declared.OpenBlock.{OpenBlock}
@@ -22,36 +21,13 @@ use Rattle.layout.specs.Few.{Few}
 use Rattle.rules.specs.Steps.{withCounts, withColumn}
 use Rattle.push_safety.specs.BooksGo.{go-refl}
 use Rattle.push_safety.specs.Firm.{FirmGoes, run-firm, firm-run, firm-goes, same-list-length}
-use Rattle.push_safety.specs.StepGoes.{column-cases, column-new, with-column-goes}
+use Rattle.push_safety.specs.StepGoes.{column-cases, column-new}
 use Rattle.push_safety.specs.FinishGoes.{Shut, shut-spare}
 use Rattle.trial_truth.specs.Tells.{closedAt}
-use Rattle.trial.specs.Trying.{Trying, Tries, TriesColumn, TriesFinish, ClosesFirst}
-use Rattle.trial.specs.TryingLaws.{marks-refl, trying-roomy, tries-none}
-
-not-number : (k : BufferNumber) → OpenBlock.Closed ≡ OpenBlock.Number k → ⊥
-not-number k q = let z : _≡_ {A = ℕ} 0 1 = cc in omega arith
-
--- attach on trial: the block of a column closed
-pub column-shut : {s : BatchCoalescer} {books : List ℕ} {c : ℕ} {k : Column} {t : BatchCoalescer} → Trying s books → c < s .columns → k ≡ columnOf s c → t ≡ withColumn s c (k .source) OpenBlock.Closed → TriesColumn s books t books
-column-shut {s} {books} {c} {k} {t} x h e q = rw (q, e) shut
-  where
-    shut : TriesColumn s books (withColumn s c (columnOf s c .source) OpenBlock.Closed) books
-    shut =
-        record {
-          tries =
-              record {
-                set-up = same-column s c (columnOf s c .source) OpenBlock.Closed;
-                marks = marks-refl (trying-roomy x) (x .run .used);
-                trying =
-                    record {
-                      slots = x .slots;
-                      pool = x .pool;
-                      run =
-                          with-column-goes c (columnOf s c .source) OpenBlock.Closed (x .run) (λ p y. x .run .kept c h y) (λ j o. absurd (not-number j o)) .run;
-                    };
-              };
-          buffered = refl;
-        }
+use Rattle.trial_column.specs.ShutLaws.{not-number}
+use Rattle.trial_column.specs.Trying.{Trying, Tries}
+use Rattle.trial.specs.Tried.{TriesFinish, ClosesFirst}
+use Rattle.trial_column.specs.TryingLaws.{marks-refl, trying-roomy, tries-none}
 
 -- ---- close_one and close_all
 

@@ -1,9 +1,7 @@
 -- What a trial leaves, what holds while it goes on, and the laws that the proofs cite.
 pub mod Trial
-pub mod Trying
-pub mod TryingLaws
+pub mod Tried
 pub mod MarkLaws
-pub mod OpenLaws
 pub mod CloseLaws
 pub mod PartLaws
 pub mod SourcedLaws

@@ -17,8 +17,8 @@ use Rattle.sound.specs.OpLaws.{changed-none, used-lt, used-entry, used-changed}
 use Rattle.room.specs.Trial.{isTrial, wiped as allWiped, untried}
 use Rattle.room.specs.Back.{cleared, Wiped}
 use Rattle.room.specs.BackLaws.{wiped-roomy, wiped-first, cleared-marked, cleared-not}
-use Rattle.trial.specs.Trial.{SameButFree, kept, wiped, Restored}
-use Rattle.trial.specs.Trying.{Unmarked, StillOrMarked, still, marked, Marks}
+use Rattle.trial.specs.Trial.{Unmarked, SameButFree, kept, wiped, Restored}
+use Rattle.trial_column.specs.Trying.{StillOrMarked, still, marked, Marks}
 
 -- a number that is not in use is free
 free-beyond : (s : List ℕ) (k : ℕ) → usedOf s ≤ k → isFreeAt s k ≡ true

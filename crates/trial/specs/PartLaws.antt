@@ -20,8 +20,9 @@ use Rattle.records.specs.RecordLaws.{record-same}
 use Rattle.push_safety.specs.StepGoes.{buffering-goes}
 use Rattle.routes.specs.declared.Sources.{Sources}
 use Rattle.routes.specs.Sourced.{noSource}
-use Rattle.trial.specs.Trying.{Trying, Marks, Tries, TriesColumn, TriesPart, TriesFull, TriesFinish, Triable, Compactable}
-use Rattle.trial.specs.TryingLaws.{trying-bounds, trying-few, trying-place, trying-length, tries-none, tries-trans}
+use Rattle.trial_column.specs.Trying.{Trying, Marks, Tries, TriesColumn, Compactable}
+use Rattle.trial.specs.Tried.{TriesPart, TriesThen, TriesFinish, Triable}
+use Rattle.trial_column.specs.TryingLaws.{trying-bounds, trying-few, trying-place, trying-length, tries-none, tries-trans}
 
 -- ---- the batch
 
@@ -99,32 +100,30 @@ part-done {s} {t} {a} {b} n x =
       buffered = λ e. refl;
     }
 
--- ---- a part and then finishing
+-- ---- a part and then finishing where the slot is full
 
 module _ {s : BatchCoalescer} {a b : List ℕ} {n : ℕ} {r : Step} (x : TriesPart s a n r b) where
-  pub full-done : {q : Step} → TriesFinish (r .state) q → TriesFull s a q b
-  full-done f = record { tries = tries-trans (x .tries) (f .tries b (x .tries .trying)); empty = f .empty }
+  pub then-done : {q : Step} → TriesFinish (r .state) q → TriesThen s a n q b
+  then-done f = record { tries = tries-trans (x .tries) (f .tries b (x .tries .trying)); empty = λ e. f .empty }
 
-  pub full-refused : (r .number ≡ 0 → ⊥) → TriesFull s a r b
-  full-refused z = record { tries = x .tries; empty = λ e. absurd (z e) }
+  pub then-room : (r .state .buffered .0 ≡ s .target .0 → ⊥) → TriesThen s a n r b
+  then-room h = record { tries = x .tries; empty = λ e z. absurd (h (x .buffered z ∙ e)) }
 
-  pub last-done : {q : Step} → TriesFinish (r .state) q → Tries s a (q .state) b
-  last-done f = full-done f .tries
+  pub then-refused : (r .number ≡ 0 → ⊥) → TriesThen s a n r b
+  then-refused h = record { tries = x .tries; empty = λ e z. absurd (h z) }
 
 -- ---- turns of try_rows
 
-pub turn-done : {s t : BatchCoalescer} {a b d : List ℕ} {r : Step} → Tries s a t b → TriesFull t b r d → Tries s a (r .state) d
-turn-done x y = tries-trans x (y .tries)
+module _ {s t : BatchCoalescer} {a b d : List ℕ} {n : ℕ} {r : Step} (x : Tries s a t b) (y : TriesThen t b n r d) where
+  pub turn-done : Tries s a (r .state) d
+  turn-done = tries-trans x (y .tries)
 
--- nothing is buffered then, which is below the target
-pub turn-below : {t : BatchCoalescer} {b d : List ℕ} {r : Step} → TriesFull t b r d → r .number ≡ 0 → r .state .buffered .0 < r .state .target .0
-turn-below y z = omega (arith, y .empty z, trying-bounds (y .tries .trying) .target-some)
+  pub turn-marks : Marks a d (s .numbers)
+  turn-marks = turn-done .marks
 
-pub turn-marks : {s t u : BatchCoalescer} {a b d : List ℕ} → Tries s a t b → Tries t b u d → Marks a d (s .numbers)
-turn-marks x y = tries-trans x y .marks
-
-pub turn-refused : {s t : BatchCoalescer} {a b d : List ℕ} {r : Step} → Tries s a t b → TriesFull t b r d → Marks a d (s .numbers)
-turn-refused x y = tries-trans x (y .tries) .marks
+-- behind a part that fills the slot nothing is buffered, which is below the target
+pub turn-below : {t : BatchCoalescer} {b d : List ℕ} {r : Step} → t .buffered .0 < t .target .0 → TriesThen t b (t .target .0 - t .buffered .0) r d → r .number ≡ 0 → r .state .buffered .0 < r .state .target .0
+turn-below h y z = omega (arith, y .empty (omega (arith, h)) z, trying-bounds (y .tries .trying) .target-some)
 
 -- ---- queueing whole
 

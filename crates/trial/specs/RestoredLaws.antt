@@ -21,7 +21,7 @@ use Rattle.push_safety.specs.Firm.{run-firm, reads-go, within-goes}
 use Rattle.routes.specs.declared.Sources.{Sources}
 use Rattle.routes.specs.Sourced.{Sourced}
 use Rattle.trial.specs.Trial.{SameButFree, kept, wiped, Restored}
-use Rattle.trial.specs.TryingLaws.{running-trying}
+use Rattle.trial_column.specs.TryingLaws.{running-trying}
 
 -- the entry of a number in use that is free
 pub free-used : (s : List ℕ) (k : ℕ) → k < usedOf s → isFreeAt s k ≡ true → isFree (entryOf s k) ≡ true

@@ -19,8 +19,9 @@ use Rattle.push_safety.specs.BooksGo.{go-refl}
 use Rattle.push_safety.specs.Firm.{run-firm, reads-go}
 use Rattle.routes.specs.declared.Sources.{Sources}
 use Rattle.routes.specs.Sourced.{Sourced}
-use Rattle.trial.specs.Trying.{Trying, Triable}
-use Rattle.trial.specs.TryingLaws.{running-trying, trying-bounds}
+use Rattle.trial_column.specs.Trying.{Trying}
+use Rattle.trial.specs.Tried.{Triable}
+use Rattle.trial_column.specs.TryingLaws.{running-trying, trying-bounds}
 
 -- ---- a batch that is pushed
 

@@ -1,5 +1,5 @@
 -- What a trial answers, and what it leaves of the books.
-use Prim.Native.Nat.{ℕ, _+_, _*_, _<_}
+use Prim.Native.Nat.{ℕ, _+_, _*_, _≤_, _<_}
 use mathlib.Core.Path.{_≡_}
 use mathlib.Core.Bool.{true}
 use mathlib.Core.List.{List}
@@ -14,6 +14,10 @@ use Rattle.state.specs.Layout.{slotsLength}
 use Rattle.rules.specs.Batch.{Batch}
 use Rattle.rules.specs.Push.{stepped}
 use Rattle.trial_truth.specs.Like.{numberOf, OwnBlocks}
+
+-- no buffer in use bears the mark of a trial (14 tests it)
+pub record Unmarked (s : List ℕ) : Type 0 where
+  pub holds : (k : ℕ) → k < usedOf s → entryOf s k .hold ≤ 1
 
 -- the books as they were, but for entries of free numbers, which may have become zero (DECISIONS: a trial marks free entries and wipes them)
 pub data SameButFree (s t : List ℕ) (k : ℕ) : Type 0 where

@@ -1,152 +1,27 @@
 // The trial of a push: its steps on state and books alone, before the first lent byte is written, with the books put back after it.
 // Added by the port (01: "Room is worked out along the push steps; the first step without it names the number").
 ghost use mathlib.Core.Path.{_≡_};
-ghost use mathlib.Core.Bool.{true};
-ghost use Prim.Native.Nat.{_+_, _*_, _≤_, _<_, _^_};
+ghost use Prim.Native.Nat.{_+_, _*_, _≤_, _<_};
 ghost use mathlib.Core.List.{[]};
 ghost use lib.ListN.{length};
 ghost use Rattle.layout.specs.Few.{Few};
 ghost use Rattle.state.specs.World.{world};
-ghost use Rattle.state.specs.Layout.{isViews, listLength};
 ghost use Rattle.rules.specs.Batch.{batch};
 ghost use Rattle.columns.specs.Pushing.{Pushing};
 ghost use Rattle.routes.specs.Sourced.{Sourced};
-ghost use Rattle.trial_truth.specs.Like.{Buffers, TellsAttached, TellsCompacted, TellsColumn};
-ghost use Rattle.trial_truth.specs.Tells.{closedAt, closedTo, TellsPart, TellsFinished, TellsFull, TellsLast, TellsRows, TellsFirst, Tells};
-ghost use Rattle.trial.specs.Trial.{Restored, Answers};
-ghost use Rattle.trial.specs.Trying.{Unmarked, Trying, Marks, Tries, TriesColumn, TriesPart, TriesFull, TriesFinish, ClosesFirst, Triable, Compactable};
-use byte_view::Source;
-use counts::ByteSum;
+ghost use Rattle.trial_truth.specs.Tells.{closedAt, closedTo, TellsPart, TellsFinished, TellsThen, TellsRows, TellsFirst, Tells};
+ghost use Rattle.trial.specs.Trial.{Unmarked, Restored, Answers};
+ghost use Rattle.trial_column.specs.Trying.{Trying, Marks};
+ghost use Rattle.trial.specs.Tried.{TriesPart, TriesThen, TriesFinish, ClosesFirst, Triable};
 use counts::RowCount;
-use room::Chosen;
 use routes::Route;
 use routes::Sources;
-use rules::ColumnRecord;
 use rules::Step;
 use rules::Way;
 use state::BatchCoalescer;
 use state::OpenBlock;
 
-// next_buffer on trial, where the list has n numbers: 10, then 11 and 12.
-fn try_buffer(s: BatchCoalescer, books: &mut [u8], c: u32, n: u32, min: ByteSum) -> Step
-    requires { ⌜ (Trying s (now books)) × (c < s .columns) × (isViews s c ≡ true)
-        × (listLength (world s [] [] (now books)) (s .place) c ≤ n) ⌝ }
-    ensures { λ q. ⌜ (TriesColumn s (now (books .entry)) (q .state) (now (books .exit)))
-        × (Buffers s (now (books .entry)) c n (min .0) q (now (books .exit))) ⌝ }
-{
-    if n < s.lists {
-        let column = layout::column_of(s, c);
-        let source = column.source;
-        let next = source.next_size(min);
-        let size = next.size;
-        let chosen = making_room::try_block(books, s.numbers, s.pool.0, size);
-        match chosen {
-            Chosen::Refused(number) => Step { state: s, number },
-            Chosen::At(r) => {
-                let kept = next.source;
-                let number = r.number;
-                let t = columns::with_column(s, c, kept, OpenBlock::Number(number));
-                Step {
-                    state: t,
-                    number: 0,
-                }
-            }
-        }
-    } else {
-        Step {
-            state: s,
-            number: 10,
-        }
-    }
-}
-
-// compact on trial: n rows from `from` on.
-fn try_compact(
-    s: BatchCoalescer,
-    books: &mut [u8],
-    body: &[u8],
-    r: ColumnRecord,
-    ideal: ByteSum,
-    c: u32,
-    from: u32,
-    n: u32,
-) -> Step
-    requires { ⌜ (Trying s (now books)) × (c < s .columns) × (isViews s c ≡ true) × (from + n ≤ 65536)
-        × (r .values + (from + n) * 16 ≤ length (now body)) ⌝ }
-    ensures { λ q. ⌜ (TriesColumn s (now (books .entry)) (q .state) (now (books .exit)))
-        × (TellsCompacted s (now (books .entry)) (now (body .entry)) r (ideal .0) c from n q (now (books .exit))) ⌝ }
-{
-    let list = columns::list_closed(s, books, c);
-    let block = layout::column_of(s, c).block;
-    match block {
-        OpenBlock::Closed => try_buffer(s, books, c, list, ideal),
-        OpenBlock::Number(k) => {
-            let rest = columns::rest_of(books, k);
-            if ideal.0 <= rest.0 {
-                Step {
-                    state: s,
-                    number: 0,
-                }
-            } else {
-                let at = (r.values as usize) + (from as usize) * 16;
-                let walked = byte_view::walk(body, at, n, rest);
-                try_buffer(s, books, c, list, ByteSum(ideal.0 - walked.bytes.0))
-            }
-        }
-    }
-}
-
-// attach on trial: 10, the block counted.
-fn try_attach(s: BatchCoalescer, books: &[u8], r: ColumnRecord, c: u32) -> Step
-    requires { ⌜ (Trying s (now books)) × (c < s .columns) ⌝ }
-    ensures { λ q. ⌜ (TriesColumn s (now (books .entry)) (q .state) (now (books .entry))) × (TellsAttached s (now (books .entry)) r c q) ⌝ }
-{
-    let n = columns::list_closed(s, books, c);
-    if (n as u64) + (r.count as u64) <= (s.lists as u64) {
-        let source = layout::column_of(s, c).source;
-        let t = columns::with_column(s, c, source, OpenBlock::Closed);
-        Step {
-            state: t,
-            number: 0,
-        }
-    } else {
-        Step {
-            state: s,
-            number: 10,
-        }
-    }
-}
-
-// copy_rows on trial: n rows from `from` on, of column c.
-fn try_column(
-    s: BatchCoalescer,
-    books: &mut [u8],
-    body: &[u8],
-    r: ColumnRecord,
-    source: Source,
-    c: u32,
-    from: u32,
-    n: u32,
-) -> Step
-    requires { ⌜ (Trying s (now books)) × (c < s .columns) × (Compactable s (now body) r (source .way) c from n) ⌝ }
-    ensures { λ q. ⌜ (TriesColumn s (now (books .entry)) (q .state) (now (books .exit)))
-        × (TellsColumn s (now (books .entry)) (now (body .entry)) r source c from n q (now (books .exit))) ⌝ }
-{
-    let way = source.way;
-    match way {
-        Way::Copied => Step {
-            state: s,
-            number: 0,
-        },
-        Way::Attached => try_attach(s, books, r, c),
-        Way::Compacted => {
-            let ideal = source.ideal;
-            try_compact(s, books, body, r, ideal, c, from, n)
-        }
-    }
-}
-
-// The same of every column; the rows are then buffered.
+// copy_rows on trial of every column: n rows from `from` on, which are then buffered.
 fn try_part(
     s: BatchCoalescer,
     books: &mut [u8],
@@ -173,7 +48,7 @@ fn try_part(
         match way {
             Way::Copied => {}
             _ => {
-                let step = try_column(t, books, body, r, source, here, from, n);
+                let step = trial_column::try_column(t, books, body, r, source, here, from, n);
                 if step.number == 0 {
                     t = step.state;
                 } else {
@@ -249,8 +124,8 @@ fn try_finish(s: BatchCoalescer) -> Step
     }
 }
 
-// A part that fills the slot, then finishing.
-fn try_full(
+// A part, then finishing if the slot is full.
+fn try_and_finish(
     s: BatchCoalescer,
     books: &mut [u8],
     records: &[u8],
@@ -261,32 +136,8 @@ fn try_full(
 ) -> Step
     requires { ⌜ (Trying s (now books)) × (Triable s sources (batch (from + n) (now records) (now body)))
         × (s .buffered .0 + n ≤ 65536) ⌝ }
-    ensures { λ q. ⌜ (TriesFull s (now (books .entry)) q (now (books .exit)))
-        × (TellsFull s (now (books .entry)) sources (now (records .entry)) (now (body .entry)) from n q (now (books .exit))) ⌝ }
-{
-    let step = try_part(s, books, records, body, sources, from, n);
-    if step.number == 0 {
-        let t = step.state;
-        try_finish(t)
-    } else {
-        step
-    }
-}
-
-// The last part, then finishing if the slot is full.
-fn try_last(
-    s: BatchCoalescer,
-    books: &mut [u8],
-    records: &[u8],
-    body: &[u8],
-    sources: Sources,
-    from: u32,
-    n: u32,
-) -> Step
-    requires { ⌜ (Trying s (now books)) × (Triable s sources (batch (from + n) (now records) (now body)))
-        × (s .buffered .0 + n ≤ 65536) ⌝ }
-    ensures { λ q. ⌜ (Tries s (now (books .entry)) (q .state) (now (books .exit)))
-        × (TellsLast s (now (books .entry)) sources (now (records .entry)) (now (body .entry)) from n q) ⌝ }
+    ensures { λ q. ⌜ (TriesThen s (now (books .entry)) n q (now (books .exit)))
+        × (TellsThen s (now (books .entry)) sources (now (records .entry)) (now (body .entry)) from n q (now (books .exit))) ⌝ }
 {
     let step = try_part(s, books, records, body, sources, from, n);
     if step.number == 0 {
@@ -319,7 +170,7 @@ fn try_rows(
     let mut from: u32 = 0;
     while t.target.0 - t.buffered.0 < rows - from {
         let n = t.target.0 - t.buffered.0;
-        let step = try_full(t, books, records, body, sources, from, n);
+        let step = try_and_finish(t, books, records, body, sources, from, n);
         if step.number == 0 {
             t = step.state;
         } else {
@@ -327,7 +178,7 @@ fn try_rows(
         }
         from += n;
     }
-    try_last(t, books, records, body, sources, from, rows - from).number
+    try_and_finish(t, books, records, body, sources, from, rows - from).number
 }
 
 // Finishing on trial, then queueing whole.
@@ -338,7 +189,7 @@ fn try_first(s: BatchCoalescer, books: &[u8], records: &[u8]) -> u32
     let step = try_finish(s);
     if step.number == 0 {
         let t = step.state;
-        routes::try_whole(t, books, records)
+        whole::try_whole(t, books, records)
     } else {
         step.number
     }
@@ -361,7 +212,7 @@ fn try_push(
     let route = routes::route_of(s, rows);
     match route {
         Route::Coalesce => try_rows(s, books, records, body, sources, rows),
-        Route::Whole => routes::try_whole(s, books, records),
+        Route::Whole => whole::try_whole(s, books, records),
         Route::FinishFirst => try_first(s, books, records),
     }
 }

@@ -11,11 +11,12 @@ use Rattle.rules.specs.Batch.{Batch, batch}
 use Rattle.rules.specs.Steps.{Res, bind}
 use Rattle.rules.specs.Push.{finished, partTaken, space, ifFull, coalesced}
 use Rattle.rules.specs.Stays.{SameSetUp, same-trans}
-use Rattle.rules.specs.StepLaws.{full-finishes, full-not, coalesced-turn, coalesced-last}
+use Rattle.rules.specs.StepLaws.{full-finishes, full-not, coalesced-turn}
 use Rattle.rules.specs.declared.Step.{Step}
 use Rattle.routes.specs.declared.Sources.{Sources}
+use Rattle.routes.specs.TurnLaws.{full-turn, ends-cut}
 use Rattle.trial_truth.specs.Like.{numberOf, Follows}
-use Rattle.trial_truth.specs.Tells.{BeginsSlot, TellsPart, TellsFinished, TellsFull, TellsLast, CutsTo, TellsCut, TellsRows}
+use Rattle.trial_truth.specs.Tells.{BeginsSlot, TellsPart, TellsFinished, TellsThen, CutsTo, TellsCut, TellsRows}
 
 -- the number of a result that is followed
 pub follows-number : {x : Res} {b : Batch} {m : ℕ} {q : Step} {books : List ℕ} → Follows x b m q books → numberOf x ≡ q .number
@@ -25,50 +26,40 @@ follows-number {x} {b} {m} {q} {books} f = go (ℕ-discrete (q .number) 0)
     go (yes d) = ap numberOf (f .done d .is) ∙ sym d
     go (no d) = ap numberOf (f .not d)
 
--- ---- a part and then finishing
+-- ---- a part and then finishing where the slot is full
 
 module _ {s : BatchCoalescer} {books : List ℕ} {x : Sources} {records body : List ℕ} {from n : ℕ} {r : Step} {books′ : List ℕ} (p : TellsPart s books x records body from n r books′) where
-  pub full-stops : (r .number ≡ 0 → ⊥) → TellsFull s books x records body from n r books′
-  full-stops z =
+  pub then-stops : (r .number ≡ 0 → ⊥) → TellsThen s books x records body from n r books′
+  then-stops z =
       record {
-        tells = λ some rows l w₀ v a.
+        number = λ rows l w₀ v a. ap (λ (y : Res). numberOf (bind y ifFull)) (p .tells rows l w₀ v a .not z);
+        full = λ fills rows l w₀ v a.
             record {
               done = λ o. absurd (z o);
-              not = λ o. ap (λ (y : Res). bind y finished) (p .tells rows l w₀ v a .not o);
+              not = λ o. ap (λ (y : Res). bind y ifFull) (p .tells rows l w₀ v a .not o);
             };
       }
 
-  pub last-stops : (r .number ≡ 0 → ⊥) → TellsLast s books x records body from n r
-  last-stops z =
-      record { tells = λ rows l w₀ v a. ap (λ (y : Res). numberOf (bind y ifFull)) (p .tells rows l w₀ v a .not z) }
+  module _ (z : r .number ≡ 0) (e : r .state .buffered .0 ≡ s .buffered .0 + n) (same : SameSetUp s (r .state)) where
+    pub then-follows : {q : Step} → s .buffered .0 + n ≤ 65536 → r .state .buffered .0 ≡ s .target .0 → 1 ≤ s .target .0 → TellsFinished (r .state) q → TellsThen s books x records body from n q books′
+    then-follows {q} few h some f =
+        record { number = λ rows l w₀ v a. follows-number (goes rows l w₀ v a); full = λ fills. goes }
+      where
+        goes : (rows : ℕ) → from + n ≤ rows → (w₀ v : World) → BeginsSlot s books x (batch rows records body) w₀ v → Follows (bind (partTaken w₀ v (batch rows records body) from n) ifFull) (batch rows records body) 0 q books′
+        goes rows l w₀ v a =
+            let g = p .tells rows l w₀ v a .done z in
+            let i : g .world .state .buffered .0 ≡ g .world .state .target .0 = ap (λ (y : BatchCoalescer). y .buffered .0) (g .state) ∙ h ∙ ap (λ y. y .0) (sym (same .target)) ∙ ap (λ (y : BatchCoalescer). y .target .0) (sym (g .state)) in
+            let k : Follows (finished (g .world)) (batch rows records body) 0 q books′ = f .tells (λ o. omega (arith, h, o)) (omega arith) books′ (batch rows records body) (s .columns) (g .world) (g .state) (g .like) in
+            rw (g .is, full-finishes (g .world) i) k
 
-  module _ (z : r .number ≡ 0) (e : r .state .buffered .0 ≡ s .buffered .0 + n) (few : s .buffered .0 + n ≤ 65536) where
-    pub full-follows : {q : Step} → TellsFinished (r .state) q → TellsFull s books x records body from n q books′
-    full-follows {q} f =
+    pub then-ends : (r .state .buffered .0 ≡ s .target .0 → ⊥) → TellsThen s books x records body from n r books′
+    then-ends h =
         record {
-          tells = λ some rows l w₀ v a.
-              let g = p .tells rows l w₀ v a .done z in
-              let k : Follows (finished (g .world)) (batch rows records body) 0 q books′ = f .tells (λ o. some (sym e ∙ o)) (omega arith) books′ (batch rows records body) (s .columns) (g .world) (g .state) (g .like) in
-              rw (g .is) k;
-        }
-
-    pub last-follows : {q : Step} → SameSetUp s (r .state) → r .state .buffered .0 ≡ s .target .0 → 1 ≤ s .target .0 → TellsFinished (r .state) q → TellsLast s books x records body from n q
-    last-follows {q} same h some f =
-        record {
-          tells = λ rows l w₀ v a.
-              let g = p .tells rows l w₀ v a .done z in
-              let i : g .world .state .buffered .0 ≡ g .world .state .target .0 = ap (λ (y : BatchCoalescer). y .buffered .0) (g .state) ∙ h ∙ ap (λ y. y .0) (sym (same .target)) ∙ ap (λ (y : BatchCoalescer). y .target .0) (sym (g .state)) in
-              let k : Follows (finished (g .world)) (batch rows records body) 0 q books′ = f .tells (λ o. omega (arith, h, o)) (omega arith) books′ (batch rows records body) (s .columns) (g .world) (g .state) (g .like) in
-              ap (λ (y : Res). numberOf (bind y ifFull)) (g .is) ∙ ap numberOf (full-finishes (g .world) i) ∙ follows-number k;
-        }
-
-    pub last-ends : SameSetUp s (r .state) → (r .state .buffered .0 ≡ s .target .0 → ⊥) → TellsLast s books x records body from n r
-    last-ends same h =
-        record {
-          tells = λ rows l w₀ v a.
+          number = λ rows l w₀ v a.
               let g = p .tells rows l w₀ v a .done z in
               let i : g .world .state .buffered .0 ≢ g .world .state .target .0 = λ o. h (ap (λ (y : BatchCoalescer). y .buffered .0) (sym (g .state)) ∙ o ∙ ap (λ (y : BatchCoalescer). y .target .0) (g .state) ∙ ap (λ y. y .0) (same .target)) in
               ap (λ (y : Res). numberOf (bind y ifFull)) (g .is) ∙ ap numberOf (full-not (g .world) i) ∙ sym z;
+          full = λ fills rows l w₀ v a. absurd (h (e ∙ fills));
         }
 
 -- ---- turn by turn
@@ -77,23 +68,17 @@ pub cut-first : (s : BatchCoalescer) (books : List ℕ) (x : Sources) (b : Batch
 cut-first s books x b =
     record { tells = λ w₀ v a. record { turns = b .rows; enough = omega arith; world = v; cut = refl; stands = a } }
 
--- where the loop ends, with or without a turn left
-ends-cut : (turns : ℕ) (w₀ w : World) (b : Batch) (from : ℕ) → b .rows - from ≤ space w → coalesced turns w₀ w b from ≡ bind (partTaken w₀ w b from (b .rows - from)) ifFull
-unfolding coalesced
-ends-cut zero w₀ w b from l = refl
-ends-cut (suc turns) w₀ w b from l = coalesced-last turns w₀ w b from l
-
 module _ {s : BatchCoalescer} {books : List ℕ} {x : Sources} {rows : ℕ} {records body : List ℕ} {from : ℕ} {t : BatchCoalescer} {books′ : List ℕ} (k : TellsCut s books x (batch rows records body) from t books′) where
-  pub cut-last : {q : Step} → from ≤ rows → rows - from ≤ t .target .0 - t .buffered .0 → TellsLast t books′ x records body from (rows - from) q → TellsRows s books x (batch rows records body) (q .number)
+  pub cut-last : {q : Step} {books″ : List ℕ} → from ≤ rows → rows - from ≤ t .target .0 - t .buffered .0 → TellsThen t books′ x records body from (rows - from) q books″ → TellsRows s books x (batch rows records body) (q .number)
   cut-last {q} h l o =
       record {
         tells = λ w₀ v a.
             let c = k .tells w₀ v a in
             ap numberOf (c .cut ∙ ends-cut (c .turns) w₀ (c .world) (batch rows records body) from (rw (c .stands .state) l))
-            ∙ o .tells rows (omega arith) w₀ (c .world) (c .stands);
+            ∙ o .number rows (omega arith) w₀ (c .world) (c .stands);
       }
 
-  module _ (l : t .target .0 - t .buffered .0 < rows - from) (below : t .buffered .0 < t .target .0) {q : Step} {books″ : List ℕ} (o : TellsFull t books′ x records body from (t .target .0 - t .buffered .0) q books″) where
+  module _ (l : t .target .0 - t .buffered .0 < rows - from) (below : t .buffered .0 < t .target .0) {q : Step} {books″ : List ℕ} (o : TellsThen t books′ x records body from (t .target .0 - t .buffered .0) q books″) where
     module _ (w₀ v : World) (a : BeginsSlot s books x (batch rows records body) w₀ v) where
       abbrev b : Batch
       b = batch rows records body
@@ -122,7 +107,16 @@ module _ {s : BatchCoalescer} {books : List ℕ} {x : Sources} {rows : ℕ} {rec
           ∙ ap (λ (n : ℕ). bind (bind (partTaken w₀ w b from n) finished) (λ u. coalesced turns w₀ u b (from + n))) space-at
 
       follows : Follows (bind (partTaken w₀ w b from (t .target .0 - t .buffered .0)) finished) b 0 q books″
-      follows = o .tells (λ z. omega (arith, z, below)) rows (omega arith) w₀ w (c .stands)
+      follows = rw (← full-turn w₀ w b from (t .target .0 - t .buffered .0) fills) (o .full (omega (arith, below)) rows (omega arith) w₀ w (c .stands))
+        where
+          fills : w .state .buffered .0 + (t .target .0 - t .buffered .0) ≡ w .state .target .0
+          fills =
+              omega (
+                arith,
+                below,
+                ap (λ (y : BatchCoalescer). y .buffered .0) (c .stands .state),
+                ap (λ (y : BatchCoalescer). y .target .0) (c .stands .state),
+              )
 
       stops : q .number ≢ 0 → numberOf (coalesced rows w₀ v b 0) ≡ q .number
       stops z =

@@ -50,13 +50,10 @@ pub record TellsFinished (s : BatchCoalescer) (q : Step) : Type 0 where
   pub tells : s .buffered .0 ≢ 0 → s .buffered .0 ≤ 65536 → (books : List ℕ) (b : Batch) (m : ℕ) (v : World) → v .state ≡ s → Like s books b m v → Follows (finished v) b 0 q books
   pub idle : s .buffered .0 ≡ 0 → (q .number ≡ 0) × (q .state ≡ s)
 
--- a part, and then finishing
-pub record TellsFull (s : BatchCoalescer) (books : List ℕ) (x : Sources) (records body : List ℕ) (from n : ℕ) (q : Step) (books′ : List ℕ) : Type 0 where
-  pub tells : s .buffered .0 + n ≢ 0 → (rows : ℕ) → from + n ≤ rows → (w₀ v : World) → BeginsSlot s books x (batch rows records body) w₀ v → Follows (bind (partTaken w₀ v (batch rows records body) from n) finished) (batch rows records body) 0 q books′
-
--- the last part, and then finishing where the slot is full
-pub record TellsLast (s : BatchCoalescer) (books : List ℕ) (x : Sources) (records body : List ℕ) (from n : ℕ) (q : Step) : Type 0 where
-  pub tells : (rows : ℕ) → from + n ≤ rows → (w₀ v : World) → BeginsSlot s books x (batch rows records body) w₀ v → numberOf (bind (partTaken w₀ v (batch rows records body) from n) ifFull) ≡ q .number
+-- a part, and then finishing where the slot is full: the number; and what follows, where the part fills the slot
+pub record TellsThen (s : BatchCoalescer) (books : List ℕ) (x : Sources) (records body : List ℕ) (from n : ℕ) (q : Step) (books′ : List ℕ) : Type 0 where
+  pub number : (rows : ℕ) → from + n ≤ rows → (w₀ v : World) → BeginsSlot s books x (batch rows records body) w₀ v → numberOf (bind (partTaken w₀ v (batch rows records body) from n) ifFull) ≡ q .number
+  pub full : s .buffered .0 + n ≡ s .target .0 → (rows : ℕ) → from + n ≤ rows → (w₀ v : World) → BeginsSlot s books x (batch rows records body) w₀ v → Follows (bind (partTaken w₀ v (batch rows records body) from n) ifFull) (batch rows records body) 0 q books′
 
 -- ---- steps 3 and 4
 

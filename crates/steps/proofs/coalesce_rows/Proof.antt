@@ -28,8 +28,8 @@ sub-if1-2 c = omega (arith, c .before .loop .inv .4 .inside)
 sub-n : tie.Need-sub-n Inv-loop μ-loop
 sub-n c = omega (arith, c .before .before .before .loop .inv .4 .below)
 
-copy-full-requires : tie.Need-copy-full-requires Inv-loop μ-loop
-copy-full-requires c κs = search (full-asks, needs)
+copy-and-finish-requires : tie.Need-copy-and-finish-requires Inv-loop μ-loop
+copy-and-finish-requires c κs = search (full-asks, needs)
 
 same-length : tie.Need-same-length Inv-loop μ-loop
 same-length c = search needs
@@ -41,7 +41,7 @@ same-length-3 : tie.Need-same-length-3 Inv-loop μ-loop
 same-length-3 c = search needs
 
 returns : tie.Need-returns Inv-loop μ-loop
-returns c = cut-stop (c .before .before .before .before .before .before .before .before .before .before .before .before .before .before .before .before .before .before .before .before .before .pre) (c .before .before .before .before .before .before .before .before .before .before .before .before .before .before .before .loop .inv .4) (c .before .before .before .before .before .before .before .before .before .before .before .before .before .if1 .taken) (c .before .before .before .before .before .before .before .before .copy-full .ensures) (c .if2 .left)
+returns c = cut-stop (c .before .before .before .before .before .before .before .before .before .before .before .before .before .before .before .before .before .before .before .before .before .pre) (c .before .before .before .before .before .before .before .before .before .before .before .before .before .before .before .loop .inv .4) (c .before .before .before .before .before .before .before .before .before .before .before .before .before .if1 .taken) (c .before .before .before .before .before .before .before .before .copy-and-finish .ensures) (c .if2 .left)
 
 add-from : tie.Need-add-from Inv-loop μ-loop
 add-from c = omega (arith, c .before .before .before .before .before .before .before .before .before .before .before .before .before .before .if1 .taken, c .before .before .before .before .before .before .before .before .before .before .before .before .before .before .before .before .loop .inv .4 .inside, c .before .before .before .before .before .before .before .before .before .before .before .before .before .before .before .before .loop .inv .0)
@@ -50,13 +50,13 @@ loop-less : tie.Need-loop-less Inv-loop μ-loop
 loop-less c = omega (arith, c .before .before .before .before .before .before .before .before .before .before .before .before .before .before .if1 .taken, c .before .before .before .before .before .before .before .before .before .before .before .before .before .before .before .before .loop .inv .4 .below)
 
 loop-again : tie.Need-loop-again Inv-loop μ-loop
-loop-again c = (search needs, search needs, search needs, search needs, cut-more (c .before .before .before .before .before .before .before .before .before .before .before .before .before .before .before .before .before .before .before .before .before .before .pre) (c .before .before .before .before .before .before .before .before .before .before .before .before .before .before .before .before .loop .inv .4) (c .before .before .before .before .before .before .before .before .before .before .before .before .before .before .if1 .taken) (c .before .before .before .before .before .before .before .before .before .copy-full .ensures) (c .before .if2 .taken))
+loop-again c = (search needs, search needs, search needs, search needs, cut-more (c .before .before .before .before .before .before .before .before .before .before .before .before .before .before .before .before .before .before .before .before .before .before .pre) (c .before .before .before .before .before .before .before .before .before .before .before .before .before .before .before .before .loop .inv .4) (c .before .before .before .before .before .before .before .before .before .before .before .before .before .before .if1 .taken) (c .before .before .before .before .before .before .before .before .before .copy-and-finish .ensures) (c .before .if2 .taken))
 
-sub-copy-last : tie.Need-sub-copy-last Inv-loop μ-loop
-sub-copy-last c = omega (arith, c .before .before .before .before .before .loop .inv .4 .inside)
+sub-copy-and-finish : tie.Need-sub-copy-and-finish Inv-loop μ-loop
+sub-copy-and-finish c = omega (arith, c .before .before .before .before .before .loop .inv .4 .inside)
 
-copy-last-requires : tie.Need-copy-last-requires Inv-loop μ-loop
-copy-last-requires c κs = search (last-asks, needs)
+copy-and-finish-requires-2 : tie.Need-copy-and-finish-requires-2 Inv-loop μ-loop
+copy-and-finish-requires-2 c κs = search (last-asks, needs)
 
 same-length-4 : tie.Need-same-length-4 Inv-loop μ-loop
 same-length-4 c = search needs
@@ -68,7 +68,7 @@ same-length-6 : tie.Need-same-length-6 Inv-loop μ-loop
 same-length-6 c = search needs
 
 returns-2 : tie.Need-returns-2 Inv-loop μ-loop
-returns-2 c = cut-last (c .before .before .before .before .before .before .before .before .before .before .before .before .before .before .before .before .before .before .pre) (c .before .before .before .before .before .before .before .before .before .before .before .before .loop .inv .4) (c .before .before .before .before .before .before .before .before .before .before .if1 .left) (c .before .before .before .before .before .before .copy-last .ensures)
+returns-2 c = cut-last (c .before .before .before .before .before .before .before .before .before .before .before .before .before .before .before .before .before .before .pre) (c .before .before .before .before .before .before .before .before .before .before .before .before .loop .inv .4) (c .before .before .before .before .before .before .before .before .before .before .if1 .left) (c .before .before .before .before .before .before .copy-and-finish2 .ensures)
 
 pub coalesce-rows-spec : {M : Type 1} → statement M
 coalesce-rows-spec =
@@ -80,7 +80,7 @@ coalesce-rows-spec =
     sub-if1
     sub-if1-2
     sub-n
-    copy-full-requires
+    copy-and-finish-requires
     same-length
     same-length-2
     same-length-3
@@ -88,8 +88,8 @@ coalesce-rows-spec =
     add-from
     loop-less
     loop-again
-    sub-copy-last
-    copy-last-requires
+    sub-copy-and-finish
+    copy-and-finish-requires-2
     same-length-4
     same-length-5
     same-length-6

@@ -7,7 +7,7 @@ use borrow.Author.Needs.{needs}
 use Rattle.state.specs.Layout.{valuesPlace}
 use Rattle.state.specs.World.{world}
 use Rattle.rules.specs.Batch.{batch}
-use Rattle.steps.specs.PlaceLaws.{place-fits, place-more}
+use Rattle.whole.specs.PlaceLaws.{place-fits, place-more}
 use Rattle.steps.specs.PartLaws.{ColumnsCopied, part-few, part-columns, part-slot, part-fits, copied-none, copied-asks, copied-more, copied-stop, copied-all, as-is-asks, copied-as-is}
 use Rattle.steps.proofs.copy_part.Statement.{statement}
 use Rattle.steps.proofs.copy_part.Tie as tie

@@ -1,6 +1,6 @@
 -- `steps::push_rows` meets its contract.
 use borrow.Author.Needs.{needs}
-use Rattle.steps.specs.QueueLaws.{push-asks, push-cutting, push-on, push-whole, push-first}
+use Rattle.steps.specs.PushLaws.{push-asks, push-cutting, push-on, push-whole, push-first}
 use Rattle.steps.proofs.push_rows.Statement.{statement}
 use Rattle.steps.proofs.push_rows.Tie as tie
 

@@ -6,7 +6,7 @@ use mathlib.Core.Path.{_≡_}
 use Rattle.trial_truth.specs.Tells.{closedTo}
 use Rattle.trial_truth.specs.FinishLaws.{closed-none, closed-more, closed-all}
 use Rattle.trial.specs.CloseLaws.{closes-none, closes-more, closes-all, close-plain}
-use Rattle.trial.specs.Trying.{ClosesFirst}
+use Rattle.trial.specs.Tried.{ClosesFirst}
 use Rattle.trial.proofs.close_all.Statement.{statement}
 use Rattle.trial.proofs.close_all.Tie as tie
 

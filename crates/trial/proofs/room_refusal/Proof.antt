@@ -4,7 +4,7 @@ use borrow.Author.Needs.{needs}
 use Rattle.trial.specs.MarkLaws.{marks-room, room-restored}
 use Rattle.trial.specs.NumberLaws.{room-answers}
 use Rattle.trial.specs.SourcedLaws.{pushing-trying, pushing-triable, pushing-below}
-use Rattle.trial.specs.TryingLaws.{trying-roomy}
+use Rattle.trial_column.specs.TryingLaws.{trying-roomy}
 use Rattle.trial.proofs.room_refusal.Statement.{statement}
 use Rattle.trial.proofs.room_refusal.Tie as tie
 

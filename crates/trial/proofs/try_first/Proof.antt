@@ -1,8 +1,7 @@
 -- `trial::try_first` meets its contract.
-use borrow.Author.Needs.{needs}
 use Rattle.trial_truth.specs.StandLaws.{whole-tells, first-follows, first-stops}
 use Rattle.trial.specs.PartLaws.{first-asks}
-use Rattle.trial.specs.TryingLaws.{trying-few, trying-place}
+use Rattle.trial_column.specs.TryingLaws.{trying-few, trying-place}
 use Rattle.trial.proofs.try_first.Statement.{statement}
 use Rattle.trial.proofs.try_first.Tie as tie
 

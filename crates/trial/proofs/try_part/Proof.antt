@@ -8,8 +8,8 @@ use Rattle.trial_truth.specs.Tells.{TellsTo}
 use Rattle.trial_truth.specs.TellLaws.{tells-copied}
 use Rattle.trial_truth.specs.PartLaws.{to-none, to-more, part-stops, part-tells}
 use Rattle.trial.specs.PartLaws.{record-asks, column-in, column-asks, part-refused, part-done}
-use Rattle.trial.specs.TryingLaws.{trying-bounds, column-none, column-trans, tries-length}
-use Rattle.trial.specs.Trying.{TriesColumn}
+use Rattle.trial_column.specs.TryingLaws.{trying-bounds, column-none, column-trans, tries-length}
+use Rattle.trial_column.specs.Trying.{TriesColumn}
 use Rattle.trial.proofs.try_part.Statement.{statement}
 use Rattle.trial.proofs.try_part.Tie as tie
 

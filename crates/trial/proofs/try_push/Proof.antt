@@ -3,7 +3,7 @@ use borrow.Author.Needs.{needs}
 use native.Mathlib.Omega.{arith}
 use Rattle.trial_truth.specs.StandLaws.{whole-tells, push-coalesces, push-whole, push-first}
 use Rattle.trial.specs.PartLaws.{whole-asks}
-use Rattle.trial.specs.TryingLaws.{trying-bounds, tries-none}
+use Rattle.trial_column.specs.TryingLaws.{trying-bounds, tries-none}
 use Rattle.trial.proofs.try_push.Statement.{statement}
 use Rattle.trial.proofs.try_push.Tie as tie
 

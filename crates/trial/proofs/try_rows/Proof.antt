@@ -7,9 +7,9 @@ use borrow.Author.Needs.{needs}
 use Rattle.rules.specs.Batch.{batch}
 use Rattle.trial_truth.specs.Tells.{TellsCut}
 use Rattle.trial_truth.specs.CutLaws.{cut-first, cut-more, cut-stops, cut-last}
-use Rattle.trial.specs.PartLaws.{triable-full, triable-last, turn-done, turn-below, turn-marks, turn-refused}
-use Rattle.trial.specs.TryingLaws.{trying-bounds, tries-none, tries-length}
-use Rattle.trial.specs.Trying.{Tries}
+use Rattle.trial.specs.PartLaws.{triable-full, triable-last, turn-done, turn-below, turn-marks}
+use Rattle.trial_column.specs.TryingLaws.{trying-bounds, tries-none, tries-length}
+use Rattle.trial_column.specs.Trying.{Tries}
 use Rattle.trial.proofs.try_rows.Statement.{statement}
 use Rattle.trial.proofs.try_rows.Tie as tie
 
@@ -31,8 +31,8 @@ sub-if1-2 c = omega (arith, c .before .loop .inv .0)
 sub-n : tie.Need-sub-n Inv-loop μ-loop
 sub-n c = omega (arith, c .before .before .before .loop .inv .1)
 
-try-full-requires : tie.Need-try-full-requires Inv-loop μ-loop
-try-full-requires c κs = (
+try-and-finish-requires : tie.Need-try-and-finish-requires Inv-loop μ-loop
+try-and-finish-requires c κs = (
   c .before .before .before .before .loop .inv .3 .trying,
   triable-full (c .before .before .before .before .loop .inv .3) (c .before .before .before .before .before .before .before .before .pre .1) (c .before .before .before .before .loop .from) (c .before .before .if1 .taken),
   omega (arith, trying-bounds (c .before .before .before .before .loop .inv .3 .trying) .target, trying-bounds (c .before .before .before .before .loop .inv .3 .trying) .rows, c .before .before .before .before .loop .inv .1),
@@ -42,7 +42,7 @@ same-length : tie.Need-same-length Inv-loop μ-loop
 same-length c = search needs
 
 returns : tie.Need-returns Inv-loop μ-loop
-returns c = (turn-refused (c .before .before .before .before .before .before .before .before .before .loop .inv .3) (c .before .before .before .before .try-full .ensures .0), cut-stops (c .before .before .before .before .before .before .before .before .before .loop .inv .4) (c .before .before .before .before .before .before .before .if1 .taken) (c .before .before .before .before .before .before .before .before .before .loop .inv .1) (c .before .before .before .before .try-full .ensures .1) (c .if2 .left))
+returns c = (turn-marks (c .before .before .before .before .before .before .before .before .before .loop .inv .3) (c .before .before .before .before .try-and-finish .ensures .0), cut-stops (c .before .before .before .before .before .before .before .before .before .loop .inv .4) (c .before .before .before .before .before .before .before .if1 .taken) (c .before .before .before .before .before .before .before .before .before .loop .inv .1) (c .before .before .before .before .try-and-finish .ensures .1) (c .if2 .left))
 
 add-from : tie.Need-add-from Inv-loop μ-loop
 add-from c = omega (arith, c .before .before .before .before .before .before .before .before .if1 .taken, c .before .before .before .before .before .before .before .before .before .before .loop .inv .0, c .before .before .before .before .before .before .before .before .before .before .before .before .before .before .pre .1 .rows-fit)
@@ -51,13 +51,13 @@ loop-less : tie.Need-loop-less Inv-loop μ-loop
 loop-less c = omega (arith, c .before .before .before .before .before .before .before .before .if1 .taken, c .before .before .before .before .before .before .before .before .before .before .loop .inv .1)
 
 loop-again : tie.Need-loop-again Inv-loop μ-loop
-loop-again c = (omega (arith, c .before .before .before .before .before .before .before .before .if1 .taken, c .before .before .before .before .before .before .before .before .before .before .loop .inv .0), turn-below (c .before .before .before .before .before .try-full .ensures .0) (c .before .if2 .taken), tries-length (turn-done (c .before .before .before .before .before .before .before .before .before .before .loop .inv .3) (c .before .before .before .before .before .try-full .ensures .0)), turn-done (c .before .before .before .before .before .before .before .before .before .before .loop .inv .3) (c .before .before .before .before .before .try-full .ensures .0), cut-more (c .before .before .before .before .before .before .before .before .before .before .loop .inv .4) (c .before .before .before .before .before .before .before .before .if1 .taken) (c .before .before .before .before .before .before .before .before .before .before .loop .inv .1) (c .before .before .before .before .before .try-full .ensures .1) (c .before .before .before .before .before .try-full .ensures .0 .tries .set-up) (c .before .if2 .taken))
+loop-again c = (omega (arith, c .before .before .before .before .before .before .before .before .if1 .taken, c .before .before .before .before .before .before .before .before .before .before .loop .inv .0), turn-below (c .before .before .before .before .before .before .before .before .before .before .loop .inv .1) (c .before .before .before .before .before .try-and-finish .ensures .0) (c .before .if2 .taken), tries-length (turn-done (c .before .before .before .before .before .before .before .before .before .before .loop .inv .3) (c .before .before .before .before .before .try-and-finish .ensures .0)), turn-done (c .before .before .before .before .before .before .before .before .before .before .loop .inv .3) (c .before .before .before .before .before .try-and-finish .ensures .0), cut-more (c .before .before .before .before .before .before .before .before .before .before .loop .inv .4) (c .before .before .before .before .before .before .before .before .if1 .taken) (c .before .before .before .before .before .before .before .before .before .before .loop .inv .1) (c .before .before .before .before .before .try-and-finish .ensures .1) (c .before .before .before .before .before .try-and-finish .ensures .0 .tries .set-up) (c .before .if2 .taken))
 
-sub-try-last : tie.Need-sub-try-last Inv-loop μ-loop
-sub-try-last c = omega (arith, c .before .before .before .loop .inv .0)
+sub-try-and-finish : tie.Need-sub-try-and-finish Inv-loop μ-loop
+sub-try-and-finish c = omega (arith, c .before .before .before .loop .inv .0)
 
-try-last-requires : tie.Need-try-last-requires Inv-loop μ-loop
-try-last-requires c κs = (
+try-and-finish-requires-2 : tie.Need-try-and-finish-requires-2 Inv-loop μ-loop
+try-and-finish-requires-2 c κs = (
   c .before .before .before .loop .inv .3 .trying,
   triable-last (c .before .before .before .loop .inv .3) (c .before .before .before .before .before .before .before .pre .1) (c .before .before .before .loop .inv .0),
   omega (arith, trying-bounds (c .before .before .before .loop .inv .3 .trying) .target, trying-bounds (c .before .before .before .loop .inv .3 .trying) .rows, c .before .before .before .loop .inv .1, c .before .if1 .left),
@@ -67,7 +67,7 @@ same-length-2 : tie.Need-same-length-2 Inv-loop μ-loop
 same-length-2 c = search needs
 
 returns-2 : tie.Need-returns-2 Inv-loop μ-loop
-returns-2 c = (turn-marks (c .before .before .before .before .before .before .loop .inv .3) (c .before .before .try-last .ensures .0), cut-last (c .before .before .before .before .before .before .loop .inv .4) (c .before .before .before .before .before .before .loop .inv .0) (c .before .before .before .before .if1 .left) (c .before .before .try-last .ensures .1))
+returns-2 c = (turn-marks (c .before .before .before .before .before .before .loop .inv .3) (c .before .before .try-and-finish2 .ensures .0), cut-last (c .before .before .before .before .before .before .loop .inv .4) (c .before .before .before .before .before .before .loop .inv .0) (c .before .before .before .before .if1 .left) (c .before .before .try-and-finish2 .ensures .1))
 
 pub try-rows-spec : {M : Type 1} → statement M
 try-rows-spec =
@@ -79,13 +79,13 @@ try-rows-spec =
     sub-if1
     sub-if1-2
     sub-n
-    try-full-requires
+    try-and-finish-requires
     same-length
     returns
     add-from
     loop-less
     loop-again
-    sub-try-last
-    try-last-requires
+    sub-try-and-finish
+    try-and-finish-requires-2
     same-length-2
     returns-2)
