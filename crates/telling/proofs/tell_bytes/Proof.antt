@@ -1,9 +1,9 @@
--- `batches::show_bytes` meets its contract.
+-- `telling::tell_bytes` meets its contract.
 use borrow.Author.Needs.{needs}
 use lib.ListN.{length}
 use Prim.Native.Nat.{_≤_, _-_}
-use Rattle.batches.proofs.show_bytes.Statement.{statement}
-use Rattle.batches.proofs.show_bytes.Tie as tie
+use Rattle.telling.proofs.tell_bytes.Statement.{statement}
+use Rattle.telling.proofs.tell_bytes.Tie as tie
 
 abbrev Inv-loop : tie.InvT-loop
 Inv-loop s i₀ i = i ≤ length s
@@ -14,11 +14,11 @@ abbrev μ-loop : tie.MeasureT-loop
 loop-holds : tie.Need-loop-holds Inv-loop μ-loop
 loop-holds c = search needs
 
-shared-slice-read-show-byte : tie.Need-shared-slice-read-show-byte Inv-loop μ-loop
-shared-slice-read-show-byte c = search needs
+shared-slice-read-tell-byte : tie.Need-shared-slice-read-tell-byte Inv-loop μ-loop
+shared-slice-read-tell-byte c = search needs
 
-show-byte-requires : tie.Need-show-byte-requires Inv-loop μ-loop
-show-byte-requires c κs = search needs
+tell-byte-requires : tie.Need-tell-byte-requires Inv-loop μ-loop
+tell-byte-requires c κs = search needs
 
 add-i : tie.Need-add-i Inv-loop μ-loop
 add-i c = search needs
@@ -32,15 +32,15 @@ loop-again c = search needs
 returns : tie.Need-returns Inv-loop μ-loop
 returns c = search needs
 
-pub show-bytes-spec : {M : Type 1} → statement M
-show-bytes-spec =
+pub tell-bytes-spec : {M : Type 1} → statement M
+tell-bytes-spec =
     tie.close
     (tie.spec
     Inv-loop
     μ-loop
     loop-holds
-    shared-slice-read-show-byte
-    show-byte-requires
+    shared-slice-read-tell-byte
+    tell-byte-requires
     add-i
     loop-less
     loop-again
