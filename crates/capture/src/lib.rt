@@ -1,6 +1,5 @@
 // Reads a capture: a list of calls, each behind a small header (docs/HOST.md has the layout). And the few words that programs which play one
 // write with.
-ghost use Prim.Native.Nat.{_/_, _%_};
 ghost use mathlib.Core.Path.{_≡_};
 ghost use lib.ListN.{length};
 use libc::STDIN_FILENO;
@@ -64,11 +63,12 @@ pub struct Fetched {
     pub second: usize,
 }
 
-fn no_more() -> Fetched {
+// A call that brings no bytes and no numbers.
+fn bare(more: bool, what: u32) -> Fetched {
     Fetched {
-        more: false,
+        more,
         call: Call {
-            what: 0,
+            what,
             a: 0,
             b: 0,
             c: 0,
@@ -81,6 +81,15 @@ fn no_more() -> Fetched {
         first: 0,
         second: 0,
     }
+}
+
+fn no_more() -> Fetched {
+    bare(false, 0)
+}
+
+// A drop of the front batch, as a capture would have it.
+pub fn a_drop() -> Fetched {
+    bare(true, 6)
 }
 
 // The next call of the capture on standard input, its bytes in the two memories.
@@ -131,28 +140,4 @@ pub fn write(text: &[u8]) {
 pub fn say(text: &[u8], number: u64) {
     io::write_all(STDOUT_FILENO, text);
     io::print_decimal(STDOUT_FILENO, number);
-}
-
-// The n bytes from a start on, or none where they are not all there.
-pub fn part(s: &[u8], start: usize, n: usize) -> &[u8] {
-    if start <= s.len() {
-        if n <= s.len() - start {
-            let end = start + n;
-            return &s[start..end];
-        }
-    }
-    &s[0..0]
-}
-
-// The refusal of an answer of two numbers, and its value.
-pub fn refusal_in(answer: u64) -> u64
-    ensures { λ r. ⌜ r ≡ answer / 4294967296 ⌝ }
-{
-    answer / 4294967296
-}
-
-pub fn value_in(answer: u64) -> u64
-    ensures { λ r. ⌜ r ≡ answer % 4294967296 ⌝ }
-{
-    answer % 4294967296
 }

@@ -1,100 +1,27 @@
 // Plays the capture on standard input: the loop over its calls, for every program that plays one.
+mod calls;
+mod rows;
+
+ghost use Prim.Native.Nat.{_≤_};
+use answers::part;
 use capture::Call;
 use capture::Fetched;
 use capture::Lent;
 
-// What a program does with the calls: a table of rows (`court`), a line a call (`edges`), every batch in hexadecimal (`replay`).
+// What a program prints of the calls: the rows as a table (`court`), or a line a call (`edges`, `replay`).
 pub enum Job {
     Table,
     Telling,
-    Batches,
 }
 
-// One call, on the parts of the memories that are lent.
-fn dispatch(
-    job: Job,
-    state: &mut [u8],
-    slots: &mut [u8],
-    pool: &mut [u8],
-    books: &mut [u8],
-    first: &[u8],
-    second: &[u8],
-    x: Call,
-) {
-    match job {
-        Job::Table => table::do_call(state, slots, pool, books, first, second, x),
-        Job::Telling => telling::do_call(state, slots, pool, books, first, second, x),
-        Job::Batches => batches::do_call(state, slots, pool, books, first, second, x),
-    }
+// Plays the capture on memories at least as long as it asks for, with room for the second run of a call.
+pub fn play(job: Job, slots: &mut [u8], pool: &mut [u8], books: &mut [u8], second: &mut [u8]) {
+    let mut state = [0u8; codes::STATE_BYTES];
+    let mut first = [0u8; 1024];
+    play_calls(job, &mut state, slots, pool, books, &mut first, second);
 }
 
-// One call, of the bytes that were read for it: the first n of one memory and the first m of the other.
-fn one_call(
-    job: Job,
-    state: &mut [u8],
-    slots: &mut [u8],
-    pool: &mut [u8],
-    books: &mut [u8],
-    first: &[u8],
-    second: &[u8],
-    f: Fetched,
-    lent: Lent,
-) {
-    let n = f.first;
-    let m = f.second;
-    if n <= first.len() {
-        if m <= second.len() {
-            lend(
-                job,
-                state,
-                slots,
-                pool,
-                books,
-                &first[0..n],
-                &second[0..m],
-                f.call,
-                lent,
-            );
-            return;
-        }
-    }
-}
-
-// The parts of the memories that are lent.
-fn lend(
-    job: Job,
-    state: &mut [u8],
-    slots: &mut [u8],
-    pool: &mut [u8],
-    books: &mut [u8],
-    first: &[u8],
-    second: &[u8],
-    x: Call,
-    lent: Lent,
-) {
-    let a = lent.slots;
-    let b = lent.pool;
-    let c = lent.books;
-    if a <= slots.len() {
-        if b <= pool.len() {
-            if c <= books.len() {
-                dispatch(
-                    job,
-                    state,
-                    &mut slots[0..a],
-                    &mut pool[0..b],
-                    &mut books[0..c],
-                    first,
-                    second,
-                    x,
-                );
-                return;
-            }
-        }
-    }
-}
-
-// Call after call, until there is none: at most 100,000.
+// Call after call, until there is none.
 fn play_calls(
     job: Job,
     state: &mut [u8],
@@ -110,8 +37,8 @@ fn play_calls(
         books: 0,
     };
     let mut turns: u32 = 0;
-    while turns < 100000 {
-        let f = capture::fetch(first, second);
+    while turns < 4000000000 {
+        let f = next_call(job, state, first, second);
         if f.more {
             let call = f.call;
             lent = capture::lent_after(lent, call);
@@ -123,9 +50,70 @@ fn play_calls(
     }
 }
 
-// Plays the capture on memories at least as long as it asks for, with room for the second run of a call.
-pub fn play(job: Job, slots: &mut [u8], pool: &mut [u8], books: &mut [u8], second: &mut [u8]) {
-    let mut state = [0u8; codes::STATE_BYTES];
-    let mut first = [0u8; 1024];
-    play_calls(job, &mut state, slots, pool, books, &mut first, second);
+// The next call to make: of a table's, a drop wherever a batch is complete; else the next of the capture.
+fn next_call(job: Job, state: &[u8], first: &mut [u8], second: &mut [u8]) -> Fetched {
+    match job {
+        Job::Table => {
+            if calls::completed(state) == 0 {
+                heard(capture::fetch(first, second))
+            } else {
+                capture::a_drop()
+            }
+        }
+        Job::Telling => capture::fetch(first, second),
+    }
+}
+
+// A call as a table hears it: calls 8 to 12 are for tests, and pass.
+fn heard(f: Fetched) -> Fetched {
+    let mut call = f.call;
+    if 7 < call.what && call.what != 13 {
+        call.what = 0;
+    }
+    Fetched {
+        more: f.more,
+        call,
+        first: f.first,
+        second: f.second,
+    }
+}
+
+// One call, on the parts of the memories that are lent: what it reads is shown, then it is made, then told.
+fn one_call(
+    job: Job,
+    state: &mut [u8],
+    slots: &mut [u8],
+    pool: &mut [u8],
+    books: &mut [u8],
+    first: &[u8],
+    second: &[u8],
+    f: Fetched,
+    lent: Lent,
+) {
+    let x = f.call;
+    let brought = part(second, 0, f.second);
+    let a = least(lent.slots, slots.len());
+    let b = least(lent.pool, pool.len());
+    let c = least(lent.books, books.len());
+    let s = &mut slots[0..a];
+    let p = &mut pool[0..b];
+    let k = &mut books[0..c];
+    rows::look(job, state, s, p, k, x);
+    let answer = calls::make(state, s, p, k, part(first, 0, f.first), brought, x);
+    tell(job, x, brought, answer, state);
+}
+
+// The smaller of two lengths.
+fn least(a: usize, b: usize) -> usize
+    ensures { λ r. ⌜ r ≤ b ⌝ }
+{
+    if a < b { a } else { b }
+}
+
+// A call that was made, told with what the state then says.
+fn tell(job: Job, x: Call, second: &[u8], answer: u64, state: &[u8]) {
+    match job {
+        Job::Table => table::line(x, answer),
+        Job::Telling => telling::line(x, second, answer, calls::counts(state)),
+    }
 }

@@ -11,5 +11,5 @@ fn main() {
     let mut pool = new_pool();
     let mut books = io::large_buffer();
     let mut second = io::large_buffer();
-    player::play(Job::Batches, &mut slots, &mut pool, &mut books, &mut second);
+    player::play(Job::Telling, &mut slots, &mut pool, &mut books, &mut second);
 }

@@ -1,2 +1,0 @@
--- What the desk tests besides the pool.
-pub mod Few

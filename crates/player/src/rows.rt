@@ -1,0 +1,90 @@
+// What calls only read, printed: the rows of the batch that a drop takes, cell by cell; a cell, a buffer, the books.
+ghost use Prim.Native.Nat.{_<_, _≤_};
+use crate::Job;
+use crate::calls;
+use answers::Cell;
+use capture::Call;
+
+// What a call reads: the rows of the batch that a drop takes; a cell, a buffer, the books.
+pub fn look(job: Job, state: &[u8], slots: &[u8], pool: &[u8], books: &[u8], x: Call) {
+    let what = x.what;
+    match what {
+        6 => show_rows(job, state, slots, pool, books),
+        8 => show_place(state, slots, pool, books, x.a, x.b),
+        9 => show_buffer(state, slots, pool, books, x.a),
+        11 => telling::show_books(books),
+        _ => {}
+    }
+}
+
+fn show_place(state: &[u8], slots: &[u8], pool: &[u8], books: &[u8], column: u32, row: u32) {
+    let mut bytes = [0u8; 20];
+    let cell = calls::cell(state, slots, pool, books, column, row, &mut bytes);
+    telling::place(column, row, cell);
+}
+
+fn show_buffer(state: &[u8], slots: &[u8], pool: &[u8], books: &[u8], number: u32) {
+    let mut bytes = [0u8; 64];
+    let answer = calls::buffer(state, slots, pool, books, number, &mut bytes);
+    telling::buffer(number, answer, &bytes);
+}
+
+// The rows of the front batch, cell by cell: until a row is not there.
+fn show_rows(job: Job, state: &[u8], slots: &[u8], pool: &[u8], books: &[u8]) {
+    let columns = columns_of(job, state);
+    let mut k: u32 = 0;
+    while k < columns * 65536 {
+        if show_cell(job, state, slots, pool, books, columns, k) {
+            k += 1;
+        } else {
+            return;
+        }
+    }
+}
+
+// How many columns are shown: a table has four; else as many as set-up asked for, which stand in word 3 of the state.
+fn columns_of(job: Job, state: &[u8]) -> u32
+    ensures { λ r. ⌜ r ≤ 16 ⌝ }
+{
+    match job {
+        Job::Table => 4,
+        Job::Telling => calls::word_at(state, 12) % 17,
+    }
+}
+
+// Cell k of the front batch, counted row by row; answers whether its row is there. Of a buffer the first 65,536 bytes are read: a value that
+// lies farther back shows as one of no bytes. The captures at hand have none.
+fn show_cell(
+    job: Job,
+    state: &[u8],
+    slots: &[u8],
+    pool: &[u8],
+    books: &[u8],
+    columns: u32,
+    k: u32,
+) -> bool
+    requires { ⌜ 0 < columns ⌝ }
+{
+    let column = k % columns;
+    let mut bytes = io::large_buffer();
+    let cell = calls::cell(state, slots, pool, books, column, k / columns, &mut bytes);
+    tell_cell(
+        job,
+        column,
+        columns - 1,
+        cell,
+        answers::bytes_of(slots, &bytes, cell),
+    )
+}
+
+// A cell, told; answers whether its row is there: whether its first cell is.
+fn tell_cell(job: Job, column: u32, last: u32, cell: Cell, bytes: &[u8]) -> bool {
+    if cell.refusal != 0 && column == 0 {
+        return false;
+    }
+    match job {
+        Job::Table => table::cell(column, cell, bytes),
+        Job::Telling => telling::cell(column, last, cell, bytes),
+    }
+    true
+}
