@@ -1,11 +1,10 @@
 #!/usr/bin/env python3
 """Writes the capture of the program `edges`: both sides of each edge of document 01, "Tempting and wrong", and every refusal.
-usage: edges.py CAPTURE. The expected output comes from play.py."""
+usage: edges.py CAPTURE. `host/run edges CAPTURE` says what must be printed for it."""
 import struct
 import sys
 
-from capture import batch, BINARY, Capture, column, inline, long, plain, text, U64, U8, UTF8, views
-from world import NONE
+from capture import batch, BINARY, Capture, column, inline, long, NONE, plain, text, U64, U8, UTF8, views
 
 
 def cuts(x):
@@ -184,7 +183,6 @@ def ranges(x):
         x.register(data, 200)
         x.push(1, column(views(data, [(0, 20)]), listed=[0]), column(plain(1, U8)))
 
-    w = None
     for memory, at, good, bad in ((0, 44, 3, 4), (0, 40, 2, 3), (0, 36, 2, 3), (0, 52, 4096, 4095), (0, 52, 1048576, 1048577)):
         for value in (good, bad):
             fresh()
@@ -205,7 +203,7 @@ def ranges(x):
     for value in (7, 8):
         fresh()
         x.poke(2, counts + 12 + 4, 1)
-        x.poke(1, x.w.list_at(1, 0), value)
+        x.poke(1, x.list_at(1, 0), value)
         x.let_go(7)
 
 
@@ -365,9 +363,38 @@ def room(x):
     x.books()
 
 
+def room_again(x):
+    x.note('-- room in the middle of the pool is used again; the numbers in use end where the highest one is')
+    x.set_up(t=8, n=5, p=40)
+    x.register(b'Anup', 10)
+    x.register(b'Bhavani')
+    x.register(b'')
+    x.register(b'Chitra')
+    x.books()
+    x.note('-- the gap of 7 is too small for 8: the lowest number, behind the others')
+    x.let_go(1)
+    x.register(b'Gurpreet')
+    x.register(b'Devi')
+    x.register(b'Esha')
+    x.books()
+    x.note('-- the highest number goes, then one between others, then the highest again: past both')
+    x.let_go(4)
+    x.books()
+    x.let_go(2)
+    x.books()
+    x.let_go(3)
+    x.books()
+    x.note('-- between the two that are left is a gap of 13')
+    x.register(b'Farid', 14)
+    x.register(b'Gita', 13)
+    x.buffer(2)
+    x.buffer(3)
+    x.books()
+
+
 def main():
     x = Capture()
-    for part in (cuts, null_rows, attach_or_compact, walks, set_ups, ranges, records, room):
+    for part in (cuts, null_rows, attach_or_compact, walks, set_ups, ranges, records, room, room_again):
         part(x)
     open(sys.argv[1], 'wb').write(x.data)
 
