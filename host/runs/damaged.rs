@@ -76,6 +76,7 @@ fn damaged(rng: &mut Rng, world: &World, push: &Call, tally: &mut Tally) {
         5 => damage::room::register_edges(rng, world, tally),
         6 | 7 => damage::room::list_edges(rng, world, tally),
         8 if rng.one_in(3) => damage::room::queue_edges(rng, world, tally),
+        8 => damage::walks::walks(rng, tally),
         9 => damage::room::block_edges(rng, world, tally),
         10 => damage::room::walk_edges(rng, world, tally),
         11..=18 => damaged_memory(rng, world, push, tally),

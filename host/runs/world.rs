@@ -57,8 +57,14 @@ fn dirty(rng: &mut Rng, n: usize) -> Vec<u8> {
 }
 
 impl World {
+    /// A small one.
     pub fn new(rng: &mut Rng, tally: &mut Tally) -> World {
         let set_up = small(rng);
+        World::of(set_up, rng, tally)
+    }
+
+    /// One of this set-up.
+    pub fn of(set_up: SetUp, rng: &mut Rng, tally: &mut Tally) -> World {
         let sizes = SetUpSizes::of(&set_up).expect("small sizes");
         let slots = dirty(rng, sizes.slots);
         let mut memory = Memory { state: dirty(rng, 304), slots, pool: dirty(rng, sizes.pool), books: dirty(rng, sizes.books) };

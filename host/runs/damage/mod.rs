@@ -6,6 +6,7 @@ pub mod memory;
 mod pushed;
 pub mod room;
 pub mod views;
+pub mod walks;
 
 use puffwidget::Memory;
 use runs::model::Call;

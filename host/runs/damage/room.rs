@@ -141,7 +141,7 @@ pub fn block_edges(rng: &mut Rng, world: &World, tally: &mut Tally) {
 }
 
 /// Lengths of 13 to `most` that add up to a sum of 13 or more.
-fn pieces(rng: &mut Rng, sum: usize, most: usize) -> Vec<usize> {
+pub fn pieces(rng: &mut Rng, sum: usize, most: usize) -> Vec<usize> {
     let (mut left, mut all) = (sum, Vec::new());
     while left > 0 {
         let piece = if left <= most { left } else { rng.within(most / 2, most).min(left - 13) };
