@@ -1,9 +1,15 @@
 """Captures, written call by call: a list of calls for the player (docs/HOST.md), and the batches and views in them."""
 import struct
 
-from world import NONE, WIDTH, World
-
 UTF8, BINARY, U64, U8 = 18, 19, 8, 5
+WIDTH = {1: 1, 2: 2, 3: 4, 4: 8, 5: 1, 6: 2, 7: 4, 8: 8, 9: 2, 10: 4, 11: 8, 12: 4, 13: 8, 14: 8, 15: 8, 16: 16, 17: 32, 18: 16, 19: 16}
+NONE = 4294967295
+
+
+def column_bytes(kind, r, b):
+    """The bytes of a column in a slot (docs/LAYOUT.md), and of its list."""
+    listed = 4 * b if kind in (UTF8, BINARY) else 0
+    return r * WIDTH[kind] + (r + 7) // 8 + listed, listed
 
 
 class Capture:
@@ -19,11 +25,16 @@ class Capture:
 
     def set_up(self, t=4, r=None, q=2, kinds=(UTF8,), b=4, n=8, p=32768, lent=(0, 0, 0)):
         r = t if r is None else r
-        w = World(t, r, q, list(kinds), b, n, p)
-        slots, pool, books = w.lengths() if all(k in WIDTH for k in kinds) else (0, p, 0)
-        self.kinds, self.w = kinds, w
-        self.lengths = (slots, pool, books)
+        self.kinds, self.sizes, self.lengths = kinds, [], (0, p, 0)
+        if all(k in WIDTH for k in kinds):
+            self.sizes = [column_bytes(k, r, b) for k in kinds]
+            self.lengths = ((q + 1) * sum(size for size, _ in self.sizes), p, 4 + 20 * n + 4 * (1 + len(kinds)) * (q + 1))
+        slots, pool, books = self.lengths
         self.call(1, t, r, q, b, n, slots + lent[0], books + lent[2], pool + lent[1], first=struct.pack('<%dI' % len(kinds), *kinds))
+
+    def list_at(self, slot, c):
+        """Where the list of a column of a slot stands."""
+        return slot * sum(size for size, _ in self.sizes) + sum(size for size, _ in self.sizes[:c + 1]) - self.sizes[c][1]
 
     def lend(self, slots=0, pool=0, books=0):
         s, p, b = self.lengths

@@ -1,11 +1,10 @@
 #!/usr/bin/env python3
 """Writes the capture of the program `edges`: both sides of each edge of document 01, "Tempting and wrong", and every refusal.
-usage: edges.py CAPTURE. The expected output comes from play.py."""
+usage: edges.py CAPTURE. `host/run edges CAPTURE` says what must be printed for it."""
 import struct
 import sys
 
-from capture import batch, BINARY, Capture, column, inline, long, plain, text, U64, U8, UTF8, views
-from world import NONE
+from capture import batch, BINARY, Capture, column, inline, long, NONE, plain, text, U64, U8, UTF8, views
 
 
 def cuts(x):
@@ -93,8 +92,10 @@ def attach_or_compact(x):
     for i in range(6):
         x.row(0, i)
     x.books()
-    x.note('-- a duplicate in a list counts each time')
+    x.note('-- a duplicate in a list counts each time: in actual, 300 with ideal 99 compacts, with 199 attaches; and in listings')
     x.push(1, column(views(data, [(0, 99)], 2), listed=[0, 0, 0]))
+    x.books()
+    x.push(2, column(views(data, [(0, 100), (1, 99)], 2), listed=[0, 0, 0]))
     x.books()
     x.note('-- ideal 0: views copied, list not attached; queued whole still lists it')
     x.set_up(t=8)
@@ -120,6 +121,18 @@ def walks(x):
     x.finish()
     for i in range(4):
         x.row(0, i)
+    x.note('-- what the walk leaves, 16,384 of 16,444, is what the new block is asked for')
+    x.set_up(t=20, p=131072)
+    x.register(data[:8092], 40000)
+    x.push(1, column(views(data, [(0, 8092)]), listed=[0]))
+    x.push(17, column(views(data, [(0, 60)] + [(0, 1024)] * 16), listed=[0]))
+    x.books()
+    x.note('-- W2, W3, W4: 8,192 gives a block of 8,192; 8,193 gives 16,384; 16,384 gives 32,768')
+    for spans in ([(0, 1024)] * 8, [(0, 1024)] * 7 + [(0, 1025)], [(0, 1024)] * 16):
+        x.set_up(t=20, p=131072)
+        x.register(data[:1025], 40000)
+        x.push(len(spans), column(views(data, spans), listed=[0]))
+        x.books()
     x.note('-- the walk takes all, and the last block is opened even for nothing')
     x.set_up(t=4, r=8, p=65536)
     x.register(data[:8190], 17000)
@@ -183,19 +196,20 @@ def ranges(x):
         x.set_up(t=4, r=8, q=2, b=3, n=8, kinds=(UTF8, U8))
         x.register(data, 200)
         x.push(1, column(views(data, [(0, 20)]), listed=[0]), column(plain(1, U8)))
+        for slot in (0, 1):
+            for place in range(3):
+                x.poke(1, x.list_at(slot, 0) + 4 * place, 0)
 
-    w = None
     for memory, at, good, bad in ((0, 44, 3, 4), (0, 40, 2, 3), (0, 36, 2, 3), (0, 52, 4096, 4095), (0, 52, 1048576, 1048577)):
         for value in (good, bad):
             fresh()
             x.poke(memory, at, value)
             x.let_go(7)
-    for at, good, bad in ((0, 8, 9), (24 + 4, 32768 - 0, 32769), (24 + 8, 8192, 8193), (4 + 12, 1, 2)):
+    for at, good, bad in ((0, 8, 9), (24 + 4, 32768 - 200, 32769 - 200), (24 + 8, 8192, 8193), (4 + 12, 1, 2)):
         for value in (good, bad):
             fresh()
             x.poke(2, at, value)
             x.let_go(7)
-    fresh()
     counts = 4 + 20 * 8
     for at, good, bad in ((counts, 8, 9), (counts + 4, 2, 3), (counts + 12 + 4, 3, 4), (counts + 8, 0, 1)):
         for value in (good, bad):
@@ -205,7 +219,7 @@ def ranges(x):
     for value in (7, 8):
         fresh()
         x.poke(2, counts + 12 + 4, 1)
-        x.poke(1, x.w.list_at(1, 0), value)
+        x.poke(1, x.list_at(1, 0), value)
         x.let_go(7)
 
 
@@ -266,6 +280,7 @@ def records(x):
     x.push(1, unheld, bad, edit=word(32 + 24, 1))
     x.push(1, fine, bad, edit=word(32 + 24, 1))
     x.push(1, bad, fine, edit=word(4, NONE - 1))
+    x.push(1, bad, fine, edit=lambda r, b: word(24, 1)(*word(4, NONE - 1)(r, b)))
 
 
 def room(x):
@@ -302,7 +317,7 @@ def room(x):
     x.push(1, compact)
     x.finish()
     x.push(1, compact)
-    x.push(1, column(views(data, [(0, 150), (0, 150)], 0), listed=[0, 1]))
+    x.push(1, column(views(data, [(0, 200)]), listed=[0, 1]))
     x.push(1, attach)
     x.push(1, compact)
     x.finish()
@@ -315,6 +330,22 @@ def room(x):
     x.drop()
     x.push(1, column(views(data, [(0, 20)]), listed=[0, 1, 2]))
     x.push(1, column(views(data, [(0, 2)]), listed=[0, 1, 2]))
+    x.note('-- 10 before 11 on opening; 10 before 9 where both a list and the queue are full, 9 before 10 for a batch queued whole')
+    x.set_up(t=2, q=1, b=1, n=1)
+    x.register(data, 200)
+    x.push(1, attach)
+    x.push(1, compact)
+    x.push(1, column([inline(b'Anup')]))
+    x.push(1, attach)
+    x.push(1, attach)
+    x.push(1, column([inline(b'Bhavani')]))
+    x.finish()
+    x.drop()
+    x.finish()
+    x.limit(0)
+    x.push(1, column(views(data, [(0, 150)]), listed=[0, 0]))
+    x.drop()
+    x.push(1, column(views(data, [(0, 150)]), listed=[0, 0]))
     x.note('-- 11: no free buffer number; 12: no gap; 11 before 12')
     x.set_up(t=8, n=2, p=10000)
     x.register(data, 8000)
@@ -365,9 +396,38 @@ def room(x):
     x.books()
 
 
+def room_again(x):
+    x.note('-- room in the middle of the pool is used again; the numbers in use end where the highest one is')
+    x.set_up(t=8, n=5, p=40)
+    x.register(b'Anup', 10)
+    x.register(b'Bhavani')
+    x.register(b'')
+    x.register(b'Chitra')
+    x.books()
+    x.note('-- the gap of 7 is too small for 8: the lowest number, behind the others')
+    x.let_go(1)
+    x.register(b'Gurpreet')
+    x.register(b'Devi')
+    x.register(b'Esha')
+    x.books()
+    x.note('-- the highest number goes, then one between others, then the highest again: past both')
+    x.let_go(4)
+    x.books()
+    x.let_go(2)
+    x.books()
+    x.let_go(3)
+    x.books()
+    x.note('-- between the two that are left is a gap of 13')
+    x.register(b'Farid', 14)
+    x.register(b'Gita', 13)
+    x.buffer(2)
+    x.buffer(3)
+    x.books()
+
+
 def main():
     x = Capture()
-    for part in (cuts, null_rows, attach_or_compact, walks, set_ups, ranges, records, room):
+    for part in (cuts, null_rows, attach_or_compact, walks, set_ups, ranges, records, room, room_again):
         part(x)
     open(sys.argv[1], 'wb').write(x.data)
 

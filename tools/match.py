@@ -4,10 +4,8 @@ sends them. usage: match.py CAPTURE [TABLE]: also writes what the program `court
 import struct
 import sys
 
-from capture import Capture, batch, column, inline, long
-from model import Coalescer
+from capture import Capture, column, inline, long, U64, U8, UTF8
 
-U64, U8, UTF8 = 8, 5, 18
 OUT, REVIVE = 1, 2
 
 # side, event, player; a revive names nobody
@@ -68,29 +66,27 @@ def table():
 
 
 def main():
-    x, m = Capture(), Coalescer()
+    x = Capture()
     x.set_up(t=4, r=8, q=3, kinds=KINDS, b=4, n=16, p=65536)
-    m.lent, m.slots, m.pool = x.lengths, bytearray(65536), bytearray(65536)
-    m.set_up(4, 8, 3, list(KINDS), 4, 16, 65536)
     x.limit(5)
-    m.w.limit = 5
-    at = 0
+    at, buffered, listed = 0, 0, []
     for size in BATCHES:
         rows = EVENTS[at:at + size]
         names = b''.join(p.encode() for _, _, p in rows if p and len(p) > 12)
-        number = 0
+        number = min(set(range(16)) - set(listed))
         if names:
             x.register(names)
-            number = m.register(names, len(names))
-        columns = columns_of(rows, at + 1, number)
-        x.push(size, *columns)
-        m.push(size, *batch(size, KINDS, columns))
-        while m.w.queued:
-            m.drop()
+        x.push(size, *columns_of(rows, at + 1, number))
         if names:
             x.let_go(number)
-            m.let_go(number)
         at += size
+        if size > 5 and not buffered:
+            continue
+        # a buffer holds its batch's names and no more, so it is attached: it is not free while rows are buffered whose list has it
+        listed = ([] if buffered + size >= 4 else listed) + ([number] if names else [])
+        buffered = (buffered + size) % 4
+        if not buffered:
+            listed = []
     x.finish()
     open(sys.argv[1], 'wb').write(x.data)
     if len(sys.argv) > 2:

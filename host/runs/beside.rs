@@ -1,8 +1,9 @@
 //! The port beside the Rust text: the same calls to both, and after each everything that can be seen of them compared.
 
+use crate::cells::cell;
 use crate::columns::{Held, Made, batch_of};
 use crate::trace::Trace;
-use judge::{Judge, JudgeBuffer, JudgeColumn, Prepared, Taken, TakenColumn, prepare};
+use judge::{Judge, JudgeBuffer, JudgeColumn, Prepared, Taken, prepare};
 use puffwidget::layout::Reader;
 use puffwidget::{Memory, RowAnswer, SetUp, layout::SetUpSizes};
 use std::collections::{HashMap, VecDeque};
@@ -60,7 +61,7 @@ impl Beside {
         let before = self.memory.clone();
         match self.memory.register_buffer(&bytes, capacity as u32) {
             Ok(number) => {
-                self.trace.register(&bytes, capacity);
+                self.trace.register(&bytes, capacity, number);
                 let buffer = JudgeBuffer::new(&bytes, capacity);
                 self.lent.insert(buffer.bytes().as_ptr() as usize, buffer.clone());
                 self.buffers.insert(number, buffer);
@@ -144,7 +145,7 @@ impl Beside {
             return;
         };
         self.read_front(&front);
-        self.trace.take(&front);
+        self.trace.take(&front, self.judge.buffered_rows(), self.queue.len());
         assert_eq!(self.memory.next_completed_batch(), Ok(front.rows as u32), "drop answers the rows of the batch");
     }
 
@@ -235,23 +236,6 @@ impl Beside {
 /// The kinds by their numbers.
 fn numbers(set_up: &SetUp) -> Vec<u32> {
     set_up.kinds.iter().map(|kind| kind.number()).collect()
-}
-
-/// A row of a column of the Rust's batch: null, or what it shows.
-pub fn cell(column: &TakenColumn, rows: usize, i: usize) -> Option<Vec<u8>> {
-    let width = column.values.len() / rows;
-    let valid = column.validity.as_ref().is_none_or(|bits| bits[i]);
-    valid.then(|| shown(&column.values[i * width..][..width], column.kind >= 18, &column.buffers))
-}
-
-/// What a value shows there.
-fn shown(value: &[u8], is_view: bool, buffers: &[JudgeBuffer]) -> Vec<u8> {
-    let at = |i: usize| puffwidget::layout::word(value, 4 * i) as usize;
-    match is_view {
-        false => value.to_vec(),
-        true if at(0) <= 12 => value[4..4 + at(0)].to_vec(),
-        true => buffers[at(2)].bytes()[at(3)..at(3) + at(0)].to_vec(),
-    }
 }
 
 /// Values, validity, views, lists and the buffers in them, of a slot of the port and a batch of the Rust.

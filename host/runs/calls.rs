@@ -1,97 +1,65 @@
-//! One call made of the port and of the reference, compared; and the counts of what was refused.
+//! One call made of the port and of the model: the answer and every byte after it compared; and the counts of what was refused.
 
-use crate::reference::{self, Refused};
 use puffwidget::Memory;
 use puffwidget::layout::word;
+use runs::model::{Answer, CLAUSES, Call, Counts, Refused, called, counts};
 use std::collections::BTreeMap;
-
-/// A call with its arguments.
-#[derive(Clone, Debug)]
-pub enum Call {
-    /// kinds in bytes; T, R, Q, B, N
-    SetUp(Vec<u8>, [u32; 5]),
-    Push {
-        records: Vec<u8>,
-        body: Vec<u8>,
-        rows: u32,
-    },
-    Finish,
-    Drop,
-    Register(Vec<u8>, u32),
-    LetGo(u32),
-    ReadRow(u32, u32),
-    ReadBuffer(u32),
-    Limit(Option<u32>),
-}
-
-/// The clauses of the reference that can refuse.
-const CLAUSES: usize = 73;
 
 /// The damages that may make a state inside the ranges of 14 that no history leaves: "demand 1's memory safety only" (01). Only these may
 /// meet an exception.
 const ODD: [&str; 3] = ["a word within its range", "random words", "two faults at once"];
 
-/// The calls' names, by `Call::place`.
-const NAMES: [&str; 9] = ["set-up", "push", "finish", "drop", "register", "let go", "read row", "read buffer", "limit"];
+/// The calls' names, by `place`.
+const NAMES: [&str; 10] = ["set-up", "push", "finish", "drop", "register", "let go", "read row", "read buffer", "limit", "counts"];
 
-impl Call {
-    fn place(&self) -> usize {
-        match self {
-            Call::SetUp(..) => 0,
-            Call::Push { .. } => 1,
-            Call::Finish => 2,
-            Call::Drop => 3,
-            Call::Register(..) => 4,
-            Call::LetGo(_) => 5,
-            Call::ReadRow(..) => 6,
-            Call::ReadBuffer(_) => 7,
-            Call::Limit(_) => 8,
-        }
-    }
-
-    /// What the port answers: a value, 0 where the call has none, or the number of a refusal.
-    fn made(&self, memory: &mut Memory) -> Result<u32, u32> {
-        match self {
-            Call::SetUp(kinds, [t, r, q, b, n]) => memory.set_up(kinds, *t, *r, *q, *b, *n).map(|()| 0),
-            Call::Push { records, body, rows } => memory.push_batch(records, body, *rows).map(|()| 0),
-            Call::Finish => memory.finish_buffered_batch().map(|()| 0),
-            Call::Drop => memory.next_completed_batch(),
-            Call::Register(bytes, capacity) => memory.register_buffer(bytes, *capacity),
-            Call::LetGo(buffer) => memory.let_go(*buffer).map(|()| 0),
-            Call::ReadRow(column, row) => memory.read_row(*column, *row).map(|_| 0),
-            Call::ReadBuffer(buffer) => memory.buffer_refusal(*buffer).map(|()| 0),
-            Call::Limit(limit) => memory.set_biggest_coalesce_batch_size(*limit).map(|()| 0),
-        }
-    }
-
-    /// The number that 01 says, and its words.
-    fn judged(&self, memory: &Memory) -> Refused {
-        match self {
-            Call::SetUp(kinds, wanted) => reference::set_up(memory, kinds, *wanted),
-            Call::Push { records, body, rows } => reference::push(memory, records, body, *rows),
-            Call::Finish => reference::finish(memory),
-            Call::Drop => reference::drop(memory),
-            Call::Register(bytes, capacity) => reference::register(memory, bytes.len(), *capacity),
-            Call::LetGo(buffer) => reference::let_go(memory, *buffer),
-            Call::ReadRow(column, row) => reference::read_row(memory, *column, *row),
-            Call::ReadBuffer(buffer) => reference::buffer_refusal(memory, *buffer),
-            Call::Limit(_) => reference::limit(memory),
-        }
-    }
-
-    /// A read hands back exactly the part that a buffer fills, "an empty part" where it is refused.
-    fn part_as_wanted(&self, memory: &Memory) -> bool {
-        let Call::ReadBuffer(buffer) = self else { return true };
-        let wanted = reference::read_buffer(memory, *buffer).unwrap_or(&[]);
-        let mut out = vec![0xa5; wanted.len() + 3];
-        memory.read_buffer(*buffer, &mut out) == wanted.len() as u64 && out[..wanted.len()] == *wanted && out[wanted.len()..] == [0xa5; 3]
+fn place(call: &Call) -> usize {
+    match call {
+        Call::SetUp(..) => 0,
+        Call::Push { .. } => 1,
+        Call::Finish => 2,
+        Call::Drop => 3,
+        Call::Register(..) => 4,
+        Call::LetGo(_) => 5,
+        Call::ReadRow(..) => 6,
+        Call::ReadBuffer(_) => 7,
+        Call::Limit(_) => 8,
+        Call::Counts => 9,
     }
 }
 
+/// What the port answers, or the number of its refusal.
+fn made(call: &Call, memory: &mut Memory) -> Result<Answer, u32> {
+    let done = |result: Result<(), u32>| result.map(|()| Answer::Done);
+    match call {
+        Call::SetUp(kinds, [t, r, q, b, n]) => done(memory.set_up(kinds, *t, *r, *q, *b, *n)),
+        Call::Push { records, body, rows } => done(memory.push_batch(records, body, *rows)),
+        Call::Finish => done(memory.finish_buffered_batch()),
+        Call::Drop => memory.next_completed_batch().map(Answer::Rows),
+        Call::Register(bytes, capacity) => memory.register_buffer(bytes, *capacity).map(Answer::Number),
+        Call::LetGo(buffer) => done(memory.let_go(*buffer)),
+        Call::ReadRow(column, row) => memory.read_row(*column, *row).map(Answer::Row),
+        Call::ReadBuffer(buffer) => part(memory, *buffer).map(Answer::Part),
+        Call::Limit(limit) => done(memory.set_biggest_coalesce_batch_size(*limit)),
+        Call::Counts => Ok(Answer::Counts(counted(memory))),
+    }
+}
+
+/// The part that a read hands back, "an empty part" where it is refused; nothing is written behind it.
+fn part(memory: &Memory, buffer: u32) -> Result<Vec<u8>, u32> {
+    let length = memory.read_buffer(buffer, &mut []) as usize;
+    let mut out = vec![0xa5; length + 3];
+    assert_eq!(memory.read_buffer(buffer, &mut out) as usize, length, "two reads, two lengths");
+    assert_eq!(out[length..], [0xa5; 3], "a read wrote behind its part");
+    out.truncate(length);
+    let refusal = memory.buffer_refusal(buffer);
+    assert!(refusal.is_ok() || out.is_empty(), "a refused read hands back bytes");
+    refusal.map(|()| out)
+}
+
 /// The calls that work on the state alone "and refuse nothing".
-fn counts_as_wanted(memory: &Memory) -> bool {
-    let limit = memory.biggest_coalesce_batch_size();
-    reference::counts(memory) == (limit, memory.get_buffered_rows(), memory.has_completed_batch(), memory.is_empty())
+fn counted(memory: &Memory) -> Counts {
+    let (limit, buffered) = (memory.biggest_coalesce_batch_size(), memory.get_buffered_rows());
+    Counts { limit, buffered, completed: memory.has_completed_batch(), empty: memory.is_empty() }
 }
 
 /// docs/EXCEPTIONS.md, of a refused call: a free entry that is not zero, which no history leaves, is zeroed where a trial took its number.
@@ -110,8 +78,8 @@ fn only_free_zeroed(before: &Memory, after: &Memory) -> bool {
 /// A push that passed all checks, with an open block that is a free entry or that of two columns: no history leaves either. The trial may
 /// take the free entry's number and zero it, and does not see one column fill another's block, so that the push may stop half way. 01
 /// promises such a state memory safety only: nothing is compared.
-fn safety_only(before: &Memory, call: &Call, wanted: Refused) -> bool {
-    if !matches!(call, Call::Push { rows: 1.., .. }) || !matches!(wanted.number, 0 | 9..=12) {
+fn safety_only(before: &Memory, call: &Call, wanted: Option<Refused>) -> bool {
+    if !matches!(call, Call::Push { rows: 1.., .. }) || !matches!(wanted.map_or(0, |refused| refused.number), 0 | 9..=12) {
         return false;
     }
     let state = |i: usize| word(&before.state, 4 * i);
@@ -123,6 +91,22 @@ fn safety_only(before: &Memory, call: &Call, wanted: Refused) -> bool {
     open.sort();
     open.dedup();
     open.len() < all
+}
+
+/// The first byte of each memory that differs.
+fn first_differences(port: &Memory, model: &Memory) -> String {
+    let pairs = [
+        ("state", &port.state, &model.state),
+        ("slots", &port.slots, &model.slots),
+        ("pool", &port.pool, &model.pool),
+        ("books", &port.books, &model.books),
+    ];
+    let first = |(name, port, model): (&str, &Vec<u8>, &Vec<u8>)| {
+        let at = (0..port.len()).find(|at| port[*at] != model[*at])?;
+        Some(format!("{name} at {at}: the port has {}, the model {}", port[at], model[at]))
+    };
+    let all: Vec<String> = pairs.into_iter().filter_map(first).collect();
+    if all.is_empty() { "no byte differs".to_string() } else { all.join("; ") }
 }
 
 /// What was called and what was refused.
@@ -144,32 +128,34 @@ pub struct Tally {
     pub places: BTreeMap<&'static str, u64>,
     /// by 01's words
     pub clauses: BTreeMap<(u32, &'static str), u64>,
-    refused: [[u64; 15]; 9],
+    refused: [[u64; 15]; 10],
 }
 
 impl Tally {
-    /// Makes a call and compares: the port's number is the reference's, and the foretold one where there is one; refused, it changed
-    /// nothing. Anything else ends the run.
-    pub fn check(&mut self, memory: &mut Memory, call: &Call, foretold: Option<u32>, why: &'static str) -> Result<u32, u32> {
+    /// Makes a call and compares: the port's answer or number is the model's, and the foretold number where there is one, and every byte of
+    /// state, slots, pool and books is as the model has it, which after a refusal is as it was. Anything else ends the run.
+    pub fn check(&mut self, memory: &mut Memory, call: &Call, foretold: Option<u32>, why: &'static str) -> Result<Answer, u32> {
         let before = memory.clone();
-        let wanted = call.judged(memory);
-        let part = call.part_as_wanted(memory) && counts_as_wanted(memory);
-        let answer = call.made(memory);
-        let got = answer.err().unwrap_or(0);
-        let still = got != 0 || matches!(call, Call::Push { rows: 0, .. });
+        let (wanted, after, refused) = match called(memory, call) {
+            Ok((answer, after)) => (Ok(answer), after, None),
+            Err(refused) => (Err(refused.number), before.clone(), Some(refused)),
+        };
+        let counts_same = counted(memory) == counts(&memory.state);
+        let answer = made(call, memory);
         let odd = ODD.contains(&why);
-        let kept = !still || before == *memory || (odd && only_free_zeroed(&before, memory));
-        let dropped = !matches!(call, Call::Drop) || answer.unwrap_or(0) == reference::dropped_rows(&before);
-        if odd && safety_only(&before, call, wanted) {
+        if odd && safety_only(&before, call, refused) {
             self.safety_only += 1;
             return answer;
         }
-        self.count(call, wanted, foretold, why);
-        self.excepted += (still && before != *memory) as u64;
-        if got != wanted.number || foretold.is_some_and(|number| number != got) || !kept || !part || !dropped {
+        self.count(call, refused, foretold, why);
+        let same = *memory == after;
+        let excepted = !same && odd && refused.is_some() && only_free_zeroed(&before, memory);
+        self.excepted += excepted as u64;
+        let as_foretold = foretold.is_none_or(|number| number == answer.as_ref().err().copied().unwrap_or(0));
+        if answer != wanted || !as_foretold || !counts_same || !(same || excepted) {
             println!("DIFFERENT in the history of seed {}; replay: damaged one {}", self.seed, self.seed);
-            println!("{why}: the port says {got}, the reference {wanted:?}, the damage {foretold:?}");
-            println!("unchanged where refused: {kept}; part and counts read: {part}; rows dropped: {dropped}");
+            println!("{why}: the port answers {answer:?}, the model {wanted:?} ({refused:?}), the damage foretells {foretold:?}");
+            println!("counts as the model's: {counts_same}; {}", first_differences(memory, &after));
             let words = |bytes: &[u8]| bytes.chunks_exact(4).map(|chunk| word(chunk, 0)).collect::<Vec<_>>();
             println!("{call:?}\nstate {:?}\nbooks {:?}", words(&before.state), words(&before.books));
             std::process::exit(1);
@@ -178,13 +164,13 @@ impl Tally {
     }
 
     /// Counts a call.
-    pub fn count(&mut self, call: &Call, wanted: Refused, foretold: Option<u32>, why: &'static str) {
+    pub fn count(&mut self, call: &Call, refused: Option<Refused>, foretold: Option<u32>, why: &'static str) {
         self.calls += 1;
         self.foretold += foretold.is_some() as u64;
-        self.refused[call.place()][wanted.number as usize] += 1;
+        self.refused[place(call)][refused.map_or(0, |refused| refused.number as usize)] += 1;
         *self.places.entry(why).or_default() += 1;
-        if wanted.number != 0 {
-            *self.clauses.entry((wanted.number, wanted.clause)).or_default() += 1;
+        if let Some(refused) = refused {
+            *self.clauses.entry((refused.number, refused.clause)).or_default() += 1;
         }
     }
 
@@ -198,8 +184,8 @@ impl Tally {
             let some: Vec<String> = (1..15).filter(|n| count(*n) > 0).map(|n| format!("{n}: {}", count(n))).collect();
             some.join(", ")
         };
-        println!("refusals by number: {}", line(&|n| self.of_number(n)));
-        for (name, row) in NAMES.iter().zip(&self.refused) {
+        println!("{} calls not refused; refusals by number: {}", self.of_number(0), line(&|n| self.of_number(n)));
+        for (name, row) in NAMES.iter().zip(&self.refused).filter(|(_, row)| row.iter().sum::<u64>() > 0) {
             println!("  {name}: {} calls, {} not refused; {}", row.iter().sum::<u64>(), row[0], line(&|n| row[n]));
         }
         let rarest = self.places.iter().min_by_key(|(_, count)| **count).expect("a place");

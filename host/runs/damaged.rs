@@ -1,16 +1,17 @@
-//! Damaged calls: histories from a seed, at each step valid calls and damaged ones, each number compared with a plain reference of 01.
+//! Damaged calls: histories from a seed, at each step valid calls and damaged ones, each compared with the plain model of 01.
 //!
 //! `damaged [CALLS [SEED]]` runs until so many calls were compared, 200,000 where nothing is said; `damaged one SEED` replays one
-//! history. After each refused call every byte of state, slots, pool and books must be as before. Damaged calls work on clones.
+//! history. Compared is the answer or the number, and every byte of state, slots, pool and books after the call. Damaged calls work on
+//! clones.
 
 mod calls;
 mod damage;
-mod reference;
 mod world;
 
-use calls::{Call, Tally};
+use calls::Tally;
 use damage::Damage;
 use puffwidget::Memory;
+use runs::model::Call;
 use runs::rng::Rng;
 use world::World;
 
@@ -75,6 +76,7 @@ fn damaged(rng: &mut Rng, world: &World, push: &Call, tally: &mut Tally) {
         5 => damage::room::register_edges(rng, world, tally),
         6 | 7 => damage::room::list_edges(rng, world, tally),
         8 if rng.one_in(3) => damage::room::queue_edges(rng, world, tally),
+        8 => damage::walks::walks(rng, tally),
         9 => damage::room::block_edges(rng, world, tally),
         10 => damage::room::walk_edges(rng, world, tally),
         11..=18 => damaged_memory(rng, world, push, tally),
@@ -108,7 +110,7 @@ fn main() {
     let mut tally = Tally::default();
     if arguments.first().is_some_and(|word| word == "one") {
         history(number(1, 0), &mut tally);
-        println!("one history: {} calls, all as the reference says", tally.calls);
+        println!("one history: {} calls, all as the model says", tally.calls);
         return;
     }
     let (calls, first) = (number(0, 200_000), number(1, 1));
@@ -123,8 +125,11 @@ fn main() {
         }
         seed += 1;
     }
-    println!("seed {first}: {} histories, {} calls compared, each number as the reference says", tally.histories, tally.calls);
-    println!("refused calls changed no byte, but for the exceptions counted below");
+    println!(
+        "seed {first}: {} histories, {} calls compared, each answer and every byte after it as the model says",
+        tally.histories, tally.calls
+    );
+    println!("refused calls changed no byte; the exceptions are counted below");
     tally.print();
     tally.assert_all_came();
     println!("{:.1} s", started.elapsed().as_secs_f64());

@@ -1,5 +1,5 @@
-//! Writes the list that the program `replay` is held to: histories from a seed in which nothing was refused, as a capture, and what
-//! the Rust text answered.
+//! Writes the list that the program `replay` is held to: histories from a seed in which nothing was refused, as a capture, and what must
+//! be printed for it, from what the Rust text answered (`trace`).
 //!
 //! `sample HISTORIES SEED CAPTURE ANSWERS`. Histories over small memories are taken, so that the list is short and the program small; two of three
 //! have opened a block.

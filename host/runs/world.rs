@@ -1,9 +1,10 @@
 //! Valid histories from a seed: a small set-up, its memory, the buffers held, and calls that 01 refuses for want of room at most.
 
-use crate::calls::{Call, Tally};
+use crate::calls::Tally;
 use puffwidget::layout::{Reader, SetUpSizes, word};
 use puffwidget::{Kind, Memory, SetUp, inline_view};
 use runs::columns::{Held, Made, Wanted, batch_of, edge, edge_sum, primitive, views};
+use runs::model::{Answer, Call};
 use runs::rng::Rng;
 
 /// A history's set-up and memory, and the buffers that its caller holds.
@@ -56,8 +57,14 @@ fn dirty(rng: &mut Rng, n: usize) -> Vec<u8> {
 }
 
 impl World {
+    /// A small one.
     pub fn new(rng: &mut Rng, tally: &mut Tally) -> World {
         let set_up = small(rng);
+        World::of(set_up, rng, tally)
+    }
+
+    /// One of this set-up.
+    pub fn of(set_up: SetUp, rng: &mut Rng, tally: &mut Tally) -> World {
         let sizes = SetUpSizes::of(&set_up).expect("small sizes");
         let slots = dirty(rng, sizes.slots);
         let mut memory = Memory { state: dirty(rng, 304), slots, pool: dirty(rng, sizes.pool), books: dirty(rng, sizes.books) };
@@ -67,10 +74,10 @@ impl World {
     }
 
     /// Makes a valid call on this memory.
-    pub fn make(&mut self, call: &Call, tally: &mut Tally) -> Result<u32, u32> {
+    pub fn make(&mut self, call: &Call, tally: &mut Tally) -> Result<Answer, u32> {
         let answer = tally.check(&mut self.memory, call, None, "valid");
-        match (call, answer) {
-            (Call::Register(bytes, _), Ok(number)) => self.held.push(Held { number, bytes: bytes.clone() }),
+        match (call, &answer) {
+            (Call::Register(bytes, _), Ok(Answer::Number(number))) => self.held.push(Held { number: *number, bytes: bytes.clone() }),
             (Call::LetGo(buffer), Ok(_)) => self.held.retain(|held| held.number != *buffer),
             _ => {}
         }
@@ -151,11 +158,11 @@ impl World {
         let sum = edge_sum(rng, &Reader::new(&self.memory), c);
         let (mut column, Wanted { bytes, capacity }) = edge(rng, kind, rows, sum);
         match self.make(&Call::Register(bytes, capacity as u32), tally) {
-            Ok(number) => {
+            Ok(Answer::Number(number)) => {
                 column.list = vec![number];
                 column
             }
-            Err(_) => views(rng, kind, rows, &self.held),
+            _ => views(rng, kind, rows, &self.held),
         }
     }
 }

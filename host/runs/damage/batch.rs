@@ -1,46 +1,13 @@
 //! Damages of a pushed batch: record bytes (2), rows (3), record words (4), places in the body (5) and listed numbers (6).
 
 use super::memory::Facts;
+use super::pushed::Pushed;
 use super::{Bytes, Change, Damage, views};
-use crate::calls::Call;
-use puffwidget::layout::word;
 use puffwidget::{Kind, Memory};
+use runs::model::Call;
 use runs::rng::Rng;
 
 const MAX: u32 = u32::MAX;
-
-/// A pushed column, read from its record.
-pub struct Pushed<'a> {
-    pub column: usize,
-    pub kind: Kind,
-    pub values: usize,
-    pub validity: Option<usize>,
-    pub first: usize,
-    pub list: usize,
-    pub count: usize,
-    pub rows: usize,
-    pub body: &'a [u8],
-}
-
-impl<'a> Pushed<'a> {
-    fn of(records: &[u8], body: &'a [u8], rows: usize, column: usize) -> Pushed<'a> {
-        let at = |i: usize| word(records, 32 * column + 4 * i);
-        let validity = (at(2) != MAX).then_some(at(2) as usize);
-        let kind = Kind::of(at(0)).expect("a kind");
-        let (values, first, list, count) = (at(1) as usize, at(3) as usize, at(4) as usize, at(5) as usize);
-        Pushed { column, kind, values, validity, first, list, count, rows, body }
-    }
-
-    /// A word of its record.
-    pub fn record(&self, i: usize, value: u32) -> Change {
-        Change::Word(Bytes::Records, 32 * self.column + 4 * i, value)
-    }
-
-    /// A damage of one change, in this column.
-    pub fn damage(&self, name: &'static str, change: Change, number: u32) -> Option<Damage> {
-        Some(Damage::at(name, vec![change], Some(number), self.column, 0))
-    }
-}
 
 /// A damage of a batch, chosen by the seed.
 pub fn damage(rng: &mut Rng, memory: &Memory, call: &Call) -> Option<Damage> {

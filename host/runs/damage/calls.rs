@@ -1,11 +1,11 @@
 //! Calls that are wrong by their arguments: set-up on both sides of each bound (1), and 13 in all its forms.
 
 use super::memory::Facts;
-use crate::calls::{Call, Tally};
-use crate::reference;
+use crate::calls::Tally;
 use crate::world::{World, kinds_of, wanted_of};
 use puffwidget::layout::{Reader, SetUpSizes};
 use puffwidget::{Kind, Memory, SetUp};
+use runs::model::{Call, Lengths, new_state};
 use runs::rng::Rng;
 use std::ops::RangeInclusive;
 
@@ -81,14 +81,18 @@ fn columns(rng: &mut Rng, s: &SetUp, n: usize, tally: &mut Tally) {
     let _ = tally.check(&mut memory, &Call::SetUp(kinds, wanted_of(&s)), Some(number), name);
 }
 
-/// A pool of 4,294,967,295 bytes is set up; one of a byte more is not. Nothing reads or writes the pool, so that the zeros take no room.
+/// A pool of 4,294,967,295 bytes is set up; one of a byte more is not. Nothing reads, writes or copies the pool, so that its zeros take no
+/// room.
 pub fn largest_pool(tally: &mut Tally) {
     for (pool, wanted) in [(1usize << 32, 1), ((1 << 32) - 1, 0)] {
         let mut memory = Memory::of(0, pool, 4 + 20 + 4 * 2);
+        let model = new_state(Lengths::of(&memory), &[], [1; 5]);
         let got = memory.set_up(&[], 1, 1, 1, 1, 1).err().unwrap_or(0);
-        let judged = reference::set_up(&memory, &[], [1; 5]);
-        assert_eq!((judged.number, got), (wanted, wanted), "a pool of {pool} bytes");
-        tally.count(&Call::SetUp(Vec::new(), [1; 5]), judged, Some(wanted), "set-up: largest pool");
+        let state = model.as_ref().map_or(vec![0; 304], |state| state.coded());
+        assert!(memory.state == state && memory.books == [0; 32], "what set-up leaves");
+        let refused = model.err();
+        assert_eq!((refused.map_or(0, |refused| refused.number), got), (wanted, wanted), "a pool of {pool} bytes");
+        tally.count(&Call::SetUp(Vec::new(), [1; 5]), refused, Some(wanted), "set-up: largest pool");
     }
 }
 

@@ -3,11 +3,13 @@
 pub mod batch;
 pub mod calls;
 pub mod memory;
+mod pushed;
 pub mod room;
 pub mod views;
+pub mod walks;
 
-use crate::calls::Call;
 use puffwidget::Memory;
+use runs::model::Call;
 
 /// The bytes that a change goes to.
 #[derive(Clone, Copy, PartialEq, Eq, Debug)]

@@ -1,11 +1,12 @@
 //! Calls where room is just enough or just not: registering (11, 12), lists (10), the queue (9), and blocks that are closed and opened.
 
 use super::memory::Facts;
-use crate::calls::{Call, Tally};
+use crate::calls::Tally;
 use crate::world::World;
 use puffwidget::layout::Reader;
 use puffwidget::long_view;
 use runs::columns::Held;
+use runs::model::Call;
 use runs::rng::Rng;
 
 const MAX: u32 = u32::MAX;
@@ -46,7 +47,7 @@ pub fn register_edges(rng: &mut Rng, world: &World, tally: &mut Tally) {
     push_on(rng, &mut world, "numbers or pool used up", tally);
 }
 
-/// A push on a clone, of which only the reference knows the number.
+/// A push on a clone, of which only the model knows the number.
 fn push_on(rng: &mut Rng, world: &mut World, name: &'static str, tally: &mut Tally) {
     let call = world.push(rng, tally);
     let _ = tally.check(&mut world.memory.clone(), &call, None, name);
@@ -140,7 +141,7 @@ pub fn block_edges(rng: &mut Rng, world: &World, tally: &mut Tally) {
 }
 
 /// Lengths of 13 to `most` that add up to a sum of 13 or more.
-fn pieces(rng: &mut Rng, sum: usize, most: usize) -> Vec<usize> {
+pub fn pieces(rng: &mut Rng, sum: usize, most: usize) -> Vec<usize> {
     let (mut left, mut all) = (sum, Vec::new());
     while left > 0 {
         let piece = if left <= most { left } else { rng.within(most / 2, most).min(left - 13) };

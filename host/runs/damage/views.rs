@@ -1,7 +1,7 @@
 //! Damages of views (7), in null rows too: padding, index, offset and length, prefix.
 
-use super::batch::Pushed;
 use super::memory::Facts;
+use super::pushed::Pushed;
 use super::{Bytes, Change, Damage};
 use puffwidget::layout::word;
 use runs::rng::Rng;

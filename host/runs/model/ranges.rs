@@ -1,24 +1,28 @@
 //! Refusals 1 and 14: set-up's bounds, the lengths of lent memory, and a state out of range.
 
-use super::{Refused, State, World, is_view, unless, width};
+use super::basics::{Refused, is_view, unless, width};
+use super::state::State;
+use super::world::World;
 use puffwidget::Memory;
 
-impl State {
-    /// Bytes of column c in a slot: R x w(c) + ceil(R / 8) + L(c).
-    pub(super) fn column_size(&self, c: u64) -> u64 {
-        let kind = self.column[c as usize].kind;
-        let list = if is_view(kind) { 4 * self.lists } else { 0 };
-        self.rows * width(kind).expect("a kind of the table") + self.rows.div_ceil(8) + list
-    }
+/// How many bytes of each memory are lent.
+#[derive(Clone, Copy)]
+pub struct Lengths {
+    pub state: usize,
+    pub slots: usize,
+    pub pool: usize,
+    pub books: usize,
+}
 
-    /// Bytes of one slot.
-    pub(super) fn slot_size(&self) -> u64 {
-        (0..self.columns).map(|c| self.column_size(c)).sum()
+impl Lengths {
+    pub fn of(memory: &Memory) -> Lengths {
+        let [state, slots, pool, books] = [&memory.state, &memory.slots, &memory.pool, &memory.books].map(|bytes| bytes.len());
+        Lengths { state, slots, pool, books }
     }
 }
 
 /// 1: "set-up outside its bounds, or lent memory not of the set-up lengths".
-pub fn test_1(s: &State, memory: &Memory) -> Result<(), Refused> {
+pub fn test_1(s: &State, lent: Lengths) -> Result<(), Refused> {
     unless((1..=65_536).contains(&s.target), 1, "T 1 to 65,536")?;
     unless(s.target <= s.rows && s.rows <= 65_536, 1, "R, T to 65,536")?;
     unless((1..=1_024).contains(&s.queue), 1, "Q 1 to 1,024")?;
@@ -27,12 +31,11 @@ pub fn test_1(s: &State, memory: &Memory) -> Result<(), Refused> {
     unless((1..=65_536).contains(&s.numbers), 1, "N 1 to 65,536")?;
     unless(s.pool <= 4_294_967_295, 1, "pool 0 to 4,294,967,295 bytes")?;
     for c in 0..s.columns {
-        unless(width(s.column[c as usize].kind).is_some(), 1, "a kind in the table")?;
+        unless(width(s.column[c].kind).is_some(), 1, "a kind in the table")?;
     }
-    unless(memory.slots.len() as u64 == (s.queue + 1) * s.slot_size(), 1, "slots of another length")?;
-    unless(memory.pool.len() as u64 == s.pool, 1, "pool of another length")?;
-    let books = 4 + 20 * s.numbers + 4 * (1 + s.columns) * (s.queue + 1);
-    unless(memory.books.len() as u64 == books, 1, "books of another length")
+    unless(lent.slots == (s.queue + 1) * s.slot_size(), 1, "slots of another length")?;
+    unless(lent.pool == s.pool, 1, "pool of another length")?;
+    unless(lent.books == s.books_size(), 1, "books of another length")
 }
 
 /// 14: "state out of range", every clause of its row, and what DECISIONS adds to it (reading 11).
@@ -58,7 +61,7 @@ pub fn test_14(world: &World) -> Result<(), Refused> {
 }
 
 /// "It looks at every entry in use, live or free."
-fn entry_in_range(world: &World, i: u64) -> Result<(), Refused> {
+fn entry_in_range(world: &World, i: usize) -> Result<(), Refused> {
     let entry = world.entry(i);
     unless(entry.start + entry.capacity <= world.state.pool, 14, "a buffer past the pool")?;
     unless(entry.length <= entry.capacity, 14, "a buffer longer than its capacity")?;
@@ -66,24 +69,24 @@ fn entry_in_range(world: &World, i: u64) -> Result<(), Refused> {
 }
 
 /// A list of any slot, "queued or not".
-fn list_in_range(world: &World, slot: u64, c: u64) -> Result<(), Refused> {
+fn list_in_range(world: &World, slot: usize, c: usize) -> Result<(), Refused> {
     let s = &world.state;
     let count = world.count(slot, 1 + c);
-    if !is_view(s.column[c as usize].kind) {
+    if !is_view(s.column[c].kind) {
         return unless(count == 0, 14, "a list of a column that is not of views");
     }
     unless(count <= s.lists, 14, "a list over B")?;
-    for i in 0..count {
-        unless(world.listed(slot, c, i) < s.numbers, 14, "a listed number not below N")?;
+    for number in world.list(slot, c) {
+        unless(number < s.numbers, 14, "a listed number not below N")?;
     }
     Ok(())
 }
 
 /// The kept size and the open block of a view column. Another column has neither: 01 opens blocks for view columns alone, so that its
 /// words are not looked at.
-fn column_in_range(world: &World, c: u64) -> Result<(), Refused> {
+fn column_in_range(world: &World, c: usize) -> Result<(), Refused> {
     let s = &world.state;
-    let column = &s.column[c as usize];
+    let column = &s.column[c];
     if !is_view(column.kind) {
         return Ok(());
     }
@@ -91,7 +94,7 @@ fn column_in_range(world: &World, c: u64) -> Result<(), Refused> {
     unless(column.kept <= 1_048_576, 14, "a view column's kept block size over 1,048,576")?;
     if let Some(number) = column.open {
         unless(number < world.used(), 14, "an open block whose number is not in use")?;
-        unless(world.count(s.place, 1 + c) < s.lists, 14, "an open block that its list has no place for")?;
+        unless(world.list_length(c) < s.lists, 14, "an open block that its list has no place for")?;
     }
     Ok(())
 }
