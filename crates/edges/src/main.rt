@@ -1,5 +1,5 @@
 // Both sides of each edge of document 01, and each refusal: plays the capture on standard input and prints what every call answers.
-// The expected output is written by tools/model.py, from document 01 and apart from this code.
+// The expected output is what the plain model of document 01 in host/runs/model says, written apart from this code.
 use player::Job;
 
 fn new_memory() -> [u8; 262144] {
