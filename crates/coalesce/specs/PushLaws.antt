@@ -12,8 +12,8 @@ use borrow.Author.Tests.{ne-eqb}
 use Rattle.words.specs.WordLaws.{Bytes}
 use Rattle.rules.specs.declared.Step.{Step}
 use Rattle.columns.specs.Pushing.{Running, Pushing}
-use Rattle.checks.specs.Checked.{Pooled}
-use Rattle.checks.specs.RuleLaws.{pooled}
+use Rattle.column_checks.specs.Tested.{Pooled}
+use Rattle.column_checks.specs.RuleLaws.{pooled}
 use Rattle.pool.specs.Read.{inRange}
 use Rattle.push_safety.specs.Run.{Run, Readable}
 use Rattle.push_safety.specs.TestedLaws.{tested-run}
