@@ -1,0 +1,62 @@
+-- `list_changes::list_all` meets its contract.
+use Prim.Native.Nat.{_≤_, _-_}
+use mathlib.Core.Path.{_≡_}
+use lib.ListN.{length}
+use borrow.Author.Needs.{needs}
+use Rattle.listings.specs.Listing.{overList, listedOne}
+use Rattle.listings.specs.ListingLaws.{over-none, over-more, over-all, listed-room}
+use Rattle.list_changes.proofs.list_all.Statement.{statement}
+use Rattle.list_changes.proofs.list_all.Tie as tie
+
+abbrev Inv-loop : tie.InvT-loop
+Inv-loop books₀ n list count i₀ books i = (i ≤ count) × (length books ≡ length books₀) × (books ≡ overList listedOne books₀ list i)
+
+abbrev μ-loop : tie.MeasureT-loop
+μ-loop books₀ n list count i₀ books i = count - i
+
+loop-holds : tie.Need-loop-holds Inv-loop μ-loop
+loop-holds c = search (over-none, needs)
+
+mul-get32 : tie.Need-mul-get32 Inv-loop μ-loop
+mul-get32 c = search needs
+
+get32-requires : tie.Need-get32-requires Inv-loop μ-loop
+get32-requires c κs = search needs
+
+cast-list-one : tie.Need-cast-list-one Inv-loop μ-loop
+cast-list-one c = search needs
+
+list-one-requires : tie.Need-list-one-requires Inv-loop μ-loop
+list-one-requires c κs = search (listed-room, needs)
+
+add-i : tie.Need-add-i Inv-loop μ-loop
+add-i c = search needs
+
+loop-less : tie.Need-loop-less Inv-loop μ-loop
+loop-less c = search needs
+
+loop-again : tie.Need-loop-again Inv-loop μ-loop
+loop-again c = search (over-more, needs)
+
+same-length : tie.Need-same-length Inv-loop μ-loop
+same-length c = search needs
+
+returns : tie.Need-returns Inv-loop μ-loop
+returns c = search (over-all, needs)
+
+pub list-all-spec : {M : Type 1} → statement M
+list-all-spec =
+    tie.close
+    (tie.spec
+    Inv-loop
+    μ-loop
+    loop-holds
+    mul-get32
+    get32-requires
+    cast-list-one
+    list-one-requires
+    add-i
+    loop-less
+    loop-again
+    same-length
+    returns)
