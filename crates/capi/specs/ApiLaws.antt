@@ -89,21 +89,22 @@ module _ (f : World → Given) (b slots pool books : List ℕ) {d : Coded} (e : 
   both-refused p = call-refused both f b slots pool books e h p
 
 -- a call that answers a number and keeps the state: push and finish
-kept-call : (f : World → Answered) (g : World → Given) (b slots pool books : List ℕ) {d : Coded} {q : Step} {b′ slots′ pool′ books′ : List ℕ} {r : ℕ} → ((w : World) → g w ≡ given (f w)) → d ≡ decoded b → d .number ≡ 0 → answered q slots′ pool′ books′ ≡ f (world (d .state) slots pool books) → KeepsState (q .number) (q .state) b b′ r → said r (memory b′ slots′ pool′ books′) ≡ called number g (memory b slots pool books)
-unfolding coded
-kept-call f g b slots pool books {d} {q} {b′} {slots′} {pool′} {books′} {r} m e z p k =
-    rw (k .answer-is, k .bytes-are)
-    (call-done number g b slots pool books e {g = given (answered q slots′ pool′ books′)} z
-    (m (world (d .state) slots pool books) ∙ ap given (sym p)))
+module _ (f : World → Answered) (g : World → Given) (same : (w : World) → g w ≡ given (f w)) (b slots pool books : List ℕ) {d : Coded} (e : d ≡ decoded b) (z : d .number ≡ 0) where
+  kept-call : {q : Step} {b′ slots′ pool′ books′ : List ℕ} {r : ℕ} → answered q slots′ pool′ books′ ≡ f (world (d .state) slots pool books) → KeepsState (q .number) (q .state) b b′ r → said r (memory b′ slots′ pool′ books′) ≡ called number g (memory b slots pool books)
+  unfolding coded
+  kept-call {q} {b′} {slots′} {pool′} {books′} {r} p k =
+      rw (k .answer-is, k .bytes-are)
+      (call-done number g b slots pool books e {g = given (answered q slots′ pool′ books′)} z
+      (same (world (d .state) slots pool books) ∙ ap given (sym p)))
 
 module _ (b slots pool books : List ℕ) {d : Coded} (e : d ≡ decoded b) (z : d .number ≡ 0) where
   pub finish-said : {q : Step} {b′ slots′ books′ : List ℕ} {r : ℕ} → answered q slots′ pool books′ ≡ finishCall (world (d .state) slots pool books) → KeepsState (q .number) (q .state) b b′ r → said r (memory b′ slots′ pool books′) ≡ called number finishing (memory b slots pool books)
   unfolding finishing
-  finish-said p k = kept-call finishCall finishing b slots pool books (λ w. refl) e z p k
+  finish-said p k = kept-call finishCall finishing (λ w. refl) b slots pool books e z p k
 
   pub push-said : (x : Batch) {q : Step} {b′ slots′ pool′ books′ : List ℕ} {r : ℕ} → answered q slots′ pool′ books′ ≡ pushCall (world (d .state) slots pool books) x → KeepsState (q .number) (q .state) b b′ r → said r (memory b′ slots′ pool′ books′) ≡ called number (pushing x) (memory b slots pool books)
   unfolding pushing
-  push-said x p k = kept-call (λ w. pushCall w x) (pushing x) b slots pool books (λ w. refl) e z p k
+  push-said x p k = kept-call (λ w. pushCall w x) (pushing x) (λ w. refl) b slots pool books e z p k
 
 -- ---- next_completed_batch: slots and pool stay
 

@@ -17,6 +17,7 @@ use Rattle.rules.specs.Calls.{Wanted, newState, setUpCall}
 use Rattle.rules.specs.CallLaws.{set-up-done, set-up-not}
 use Rattle.push_safety.specs.TestedLaws.{bounds-say}
 use Rattle.rules.specs.declared.Step.{Step}
+use Rattle.set_up.specs.declared.Wanted.{Wanted as Asking}
 use Rattle.set_up.specs.SetUp.{padded, wantedOf, SetsUp}
 use Rattle.codes.specs.Code.{stateBytes}
 use Rattle.crossing.specs.Cross.{keptAs, KeepsState, kindsTo, wordsFrom}
@@ -142,13 +143,27 @@ module _ (b slots pool books kinds : List ℕ) (target rows queue lists numbers 
         go (yes p) (yes q) = refused-by (fits-not a slots pool books (out p q)) ∙ made p q
 
     module _ (t : x ≡ true) {k : List ℕ} (ks : k ≡ kindsTo kinds (length kinds / 4)) where
-      wanted-is : wantedOf (record { target = record { 0 = target }; rows = record { 0 = rows }; queue = queue; columns = length kinds / 4; kinds = k; lists = lists; numbers = numbers; pool = record { 0 = length pool } }) ≡ a
+      -- what the code asks set-up for
+      abbrev asking : Asking
+      asking =
+          record {
+            target = record { 0 = target };
+            rows = record { 0 = rows };
+            queue = queue;
+            columns = length kinds / 4;
+            kinds = k;
+            lists = lists;
+            numbers = numbers;
+            pool = record { 0 = length pool };
+          }
+
+      wanted-is : wantedOf asking ≡ a
       unfolding wantedOf
       wanted-is =
           let y : length kinds ≤ 64 = asks-few (length b) (length kinds) (length pool) e t in
           rw (ks, kinds-same kinds (length kinds / 4) (omega arith))
 
-      pub new-said : {q : Step} {b′ books′ : List ℕ} {r : ℕ} → SetsUp (setUpCall (wantedOf (record { target = record { 0 = target }; rows = record { 0 = rows }; queue = queue; columns = length kinds / 4; kinds = k; lists = lists; numbers = numbers; pool = record { 0 = length pool } })) slots pool books) books′ q → KeepsState (q .number) (q .state) b b′ r → said r (memory b′ slots pool books′) ≡ created (askedFor target rows queue lists numbers kinds (length pool)) kinds (memory b slots pool books)
+      pub new-said : {q : Step} {b′ books′ : List ℕ} {r : ℕ} → SetsUp (setUpCall (wantedOf asking) slots pool books) books′ q → KeepsState (q .number) (q .state) b b′ r → said r (memory b′ slots pool books′) ≡ created a kinds (memory b slots pool books)
       unfolding coded
       new-said {q} {b′} {books′} {r} s h =
           let y = asks (length b) (length kinds) (length pool) e t in

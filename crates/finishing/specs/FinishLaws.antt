@@ -8,12 +8,11 @@ use native.Mathlib.Omega.{arith}
 use lib.ListN.{length, getD}
 use Rattle.kinds.specs.Kind.{isView}
 use Rattle.search.specs.Cases.{by-cond}
-use Rattle.tallies.specs.Tally.{withTally}
 use Rattle.state.specs.declared.BatchCoalescer.{BatchCoalescer}
 use Rattle.state.specs.World.{World, world, columnOf, noColumn}
-use Rattle.state.specs.Layout.{isViews, slotsLength, booksLength, tally, nextSlot}
+use Rattle.state.specs.Layout.{isViews, slotsLength, booksLength}
 use Rattle.layout.specs.Few.{Few}
-use Rattle.rules.specs.Steps.{ok, each, withCounts, counting, queueing}
+use Rattle.rules.specs.Steps.{ok, each, counting, queueing}
 use Rattle.rules.specs.Views.{closed}
 use Rattle.rules.specs.Calls.{orOld}
 use Rattle.rules.specs.Push.{allClosed, finished, ifFull}
@@ -27,7 +26,7 @@ use Rattle.columns.specs.Pushing.{Running}
 use Rattle.open_blocks.specs.Open.{FillingViews, ClosesBlock}
 use Rattle.open_blocks.specs.AskLaws.{zeros, length-zeros, run-booked, booked-few, booked-place, booked-books}
 use Rattle.open_blocks.specs.AskLaws.{running-booked, ready-at}
-use Rattle.finishing.specs.Finish.{Closable, close, ClosesOne, ClosesAll, Finishes}
+use Rattle.finishing.specs.Finish.{Closable, close, ClosesOne, ClosesAll, Finishes, QueuesSlot}
 use Rattle.finishing.specs.AnswerLaws.{finishes-done, finishes-refused}
 
 -- one more of a fold
@@ -124,9 +123,9 @@ module _ {s : BatchCoalescer} {slots books : List ℕ} (x : Closable s slots boo
 
 -- ---- queue_slot and finish_slot
 
-pub queued-is : (s : BatchCoalescer) (slots pool books : List ℕ) (rows : ℕ) {u : BatchCoalescer} {books′ : List ℕ} → u ≡ withCounts s (nextSlot s (s .place)) (s .queued + 1) 0 → books′ ≡ withTally books (tally s (s .place) 0) rows → queueing (world s slots pool books) rows ≡ world u slots pool books′
+pub queued-is : {s : BatchCoalescer} {books : List ℕ} {rows : ℕ} {u : BatchCoalescer} {books′ : List ℕ} (slots pool : List ℕ) → QueuesSlot s books rows u books′ → queueing (world s slots pool books) rows ≡ world u slots pool books′
 unfolding queueing counting
-queued-is s slots pool books rows e f = rw (e, f)
+queued-is slots pool q = rw (q .state-is, q .books-are)
 
 all-is : (s : BatchCoalescer) (slots pool books : List ℕ) → allClosed (world s slots pool books) ≡ each (s .columns) close (world s slots pool books)
 unfolding allClosed
@@ -139,11 +138,11 @@ module _ {s : BatchCoalescer} {slots books : List ℕ} where
   pub finish-nine : s .buffered .0 ≢ 0 → s .queue ≤ s .queued → Finishes finished s slots books (record { state = s; number = 9 }) slots books
   finish-nine h l = finishes-refused (λ pool. finished-nine (world s slots pool books) h l)
 
-  pub finish-queues : {t u : BatchCoalescer} {slots′ books′ books″ : List ℕ} → s .buffered .0 ≢ 0 → s .queued < s .queue → ClosesAll s slots books (s .columns) t slots′ books′ → u ≡ withCounts t (nextSlot t (t .place)) (t .queued + 1) 0 → books″ ≡ withTally books′ (tally t (t .place) 0) (s .buffered .0) → Finishes finished s slots books (record { state = u; number = 0 }) slots′ books″
-  finish-queues {t} {u} {slots′} {books′} {books″} h l k e f =
+  pub finish-queues : {t u : BatchCoalescer} {slots′ books′ books″ : List ℕ} → s .buffered .0 ≢ 0 → s .queued < s .queue → ClosesAll s slots books (s .columns) t slots′ books′ → QueuesSlot t books′ (s .buffered .0) u books″ → Finishes finished s slots books (record { state = u; number = 0 }) slots′ books″
+  finish-queues {t} {u} {slots′} {books′} {books″} h l k q =
       finishes-done (λ pool.
       finished-queues (world s slots pool books) h l
-      ∙ ap ok (ap (λ (v : World). queueing v (s .buffered .0)) (all pool) ∙ queued-is t slots′ pool books′ (s .buffered .0) e f))
+      ∙ ap ok (ap (λ (v : World). queueing v (s .buffered .0)) (all pool) ∙ queued-is slots′ pool q))
     where
       all : (pool : List ℕ) → allClosed (world s slots pool books) ≡ world t slots′ pool books′
       all pool = all-is s slots pool books ∙ k .is pool

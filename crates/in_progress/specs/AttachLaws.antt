@@ -36,11 +36,12 @@ use Rattle.in_progress.specs.AlongLaws.{views-on, closed-along}
 
 -- ---- attach_list
 
-raise-views : (s : BatchCoalescer) (slots pool books : List ℕ) (b : Batch) (p : Rows) (k : ℕ) {f : ℕ → View} {to : ℕ} {t : List ℕ} → viewsFrom (world s slots pool books) b (p .column) (p .from) ≡ f → cellPlace s (s .place) (p .column) (p .at) ≡ to → t ≡ viewsPut (λ i. raisedBy k (f i)) slots to (p .count) → viewsRaised (world s slots pool books) b (p .column) k (p .at) (p .from) (p .count) ≡ world s t pool books
-unfolding viewsRaised
-raise-views s slots pool books b p k {f} {to} {t} e q u =
-    ap (λ (g : ℕ → View). world s (viewsPut (λ i. raisedBy k (g i)) slots (cellPlace s (s .place) (p .column) (p .at)) (p .count)) pool books) e
-    ∙ rw (q, u)
+module _ (s : BatchCoalescer) (slots pool books : List ℕ) (b : Batch) (p : Rows) {f : ℕ → View} {to : ℕ} (e : viewsFrom (world s slots pool books) b (p .column) (p .from) ≡ f) (q : cellPlace s (s .place) (p .column) (p .at) ≡ to) where
+  raise-views : (k : ℕ) {t : List ℕ} → t ≡ viewsPut (λ i. raisedBy k (f i)) slots to (p .count) → viewsRaised (world s slots pool books) b (p .column) k (p .at) (p .from) (p .count) ≡ world s t pool books
+  unfolding viewsRaised
+  raise-views k u =
+      ap (λ (g : ℕ → View). world s (viewsPut (λ i. raisedBy k (g i)) slots (cellPlace s (s .place) (p .column) (p .at)) (p .count)) pool books) e
+      ∙ rw (q, u)
 
 module _ {s : BatchCoalescer} {slots books records body : List ℕ} {rows : ℕ} {r : ColumnRecord} {p : Rows} (a : AnyPart s slots books (batch rows records body) r p) where
   abbrev d : Batch
@@ -139,7 +140,7 @@ module _ {s : BatchCoalescer} {slots books records body : List ℕ} {rows : ℕ}
       raise-done {slots′} {slots″} {books′} t u = record { is = λ y. go y }
         where
           views : (y : List ℕ) → viewsRaised (world s slots′ y books′) d (p .column) k (p .at) (p .from) (p .count) ≡ world s slots″ y books′
-          views y = raise-views s slots′ y books′ d p k (views-at (world s slots′ y books′) wide) cell-at u
+          views y = raise-views s slots′ y books′ d p (views-at (world s slots′ y books′) wide) cell-at k u
 
           go : (y : List ℕ) → viewsRaised (listAttached (world s slots y books) d (p .column)) d (p .column) k (p .at) (p .from) (p .count) ≡ world s slots″ y books′
           go y = ap (λ (w : World). viewsRaised w d (p .column) k (p .at) (p .from) (p .count)) (t .is y) ∙ views y

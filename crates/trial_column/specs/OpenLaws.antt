@@ -35,7 +35,7 @@ use Rattle.push_safety.specs.StepGoes.{with-column-goes}
 use Rattle.push_safety.specs.OpenGoes.{asked-some}
 use Rattle.push_safety.specs.CallerLaws.{run-bounds}
 use Rattle.trial_truth.specs.Like.{sizeFor, Took, Buffers}
-use Rattle.trial_column.specs.Trying.{Trying, StillOrMarked, still, marked, Marks, TriesColumn}
+use Rattle.trial_column.specs.Trying.{Trying, StillOrMarked, still, marked, Marks, TriesColumn, Bufferable}
 use Rattle.trial_column.specs.TryingLaws.{column-none}
 
 -- ---- the books
@@ -192,15 +192,6 @@ answer-not s n pool capacity {r} {t} {number} o e =
 pub buffer-refused : {s : BatchCoalescer} {books : List ℕ} (size : ℕ) {r : Chosen} {t : List ℕ} {number : ℕ} → Trying s books → Opens (tried books (s .numbers) (s .pool .0) size) t r → r ≡ Chosen.Refused number → TriesColumn s books s t
 buffer-refused {s} {books} size x o e = rw (answer-not books (s .numbers) (s .pool .0) size o e) (column-none x)
 
-pub buffer-opened : {s : BatchCoalescer} {books : List ℕ} (c n : ℕ) (min : ByteSum) {k : Column} {a : NextSize} {r : Chosen} {t : List ℕ} {room : Room} {v : BatchCoalescer} → Trying s books → c < s .columns → isViews s c ≡ true → listLength (world s [] [] books) (s .place) c ≤ n → n < s .lists → k ≡ columnOf s c → a ≡ asked (k .source) min → Opens (tried books (s .numbers) (s .pool .0) (a .size .0)) t r → r ≡ Chosen.At room → v ≡ withColumn s c (a .source) (OpenBlock.Number (room .number)) → TriesColumn s books v t
-buffer-opened {s} {books} c n min {k} {a} {r} {t} {room} {v} x h y m l e q o g z =
-    let b = answer-at books (s .numbers) (s .pool .0) (a .size .0) o g in
-    let some : 1 ≤ a .source .current .0 = rw (q, e) (asked-some (columnOf s c .source) min (x .run .kept c h y)) in
-    rw (b .1, z)
-    (opens x c h y (omega arith) (a .source) some (a .size .0) room (room-says books (s .numbers) (s .pool .0) (a .size .0) room (b .0)))
-
--- ---- the same ways out, as the push sees them
-
 pub buffers-full : {s : BatchCoalescer} {books : List ℕ} (c n min : ℕ) → s .lists ≤ n → Buffers s books c n min (record { state = s; number = 10 }) books
 buffers-full c n min l =
     record {
@@ -216,6 +207,15 @@ module _ (s : BatchCoalescer) (books : List ℕ) (c n : ℕ) (min : ByteSum) {k 
   size-at : a .size .0 ≡ sizeFor s c (min .0)
   size-at = ap (λ (x : NextSize). x .size .0) asked-at
 
+  -- state and books stay in order
+  pub buffer-opened : {r : Chosen} {t : List ℕ} {room : Room} {v : BatchCoalescer} → Bufferable s books c n → Opens (tried books (s .numbers) (s .pool .0) (a .size .0)) t r → r ≡ Chosen.At room → v ≡ withColumn s c (a .source) (OpenBlock.Number (room .number)) → TriesColumn s books v t
+  buffer-opened {r} {t} {room} {v} x o g z =
+      let b = answer-at books (s .numbers) (s .pool .0) (a .size .0) o g in
+      let some : 1 ≤ a .source .current .0 = rw (q, e) (asked-some (columnOf s c .source) min (x .trying .run .kept c (x .column) (x .views))) in
+      rw (b .1, z)
+      (opens (x .trying) c (x .column) (x .views) (omega (arith, x .most)) (a .source) some (a .size .0) room (room-says books (s .numbers) (s .pool .0) (a .size .0) room (b .0)))
+
+  -- and as the push sees them
   pub buffers-refused : {r : Chosen} {t : List ℕ} {number : ℕ} → Opens (tried books (s .numbers) (s .pool .0) (a .size .0)) t r → r ≡ Chosen.Refused number → Buffers s books c n (min .0) (record { state = s; number = number }) t
   buffers-refused {r} {t} {number} o g =
       record {

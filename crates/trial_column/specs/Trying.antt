@@ -2,14 +2,14 @@
 use Prim.Native.Nat.{ℕ, _+_, _*_, _≤_, _<_}
 use mathlib.Core.Path.{_≡_}
 use mathlib.Core.Bool.{true}
-use mathlib.Core.List.{List}
+use mathlib.Core.List.{List, []}
 use lib.ListN.{length}
 use Rattle.words.specs.WordLaws.{Bytes}
 use Rattle.words.specs.Frame.{Framed}
 use Rattle.books.specs.Entry.{usedOf, entryOf, isFreeAt}
 use Rattle.state.specs.declared.BatchCoalescer.{BatchCoalescer}
 use Rattle.state.specs.World.{world}
-use Rattle.state.specs.Layout.{isViews}
+use Rattle.state.specs.Layout.{isViews, listLength}
 use Rattle.rules.specs.declared.ColumnRecord.{ColumnRecord}
 use Rattle.rules.specs.declared.Way.{Way}
 use Rattle.rules.specs.Stays.{SameSetUp}
@@ -44,6 +44,13 @@ pub record Tries (s : BatchCoalescer) (books : List ℕ) (t : BatchCoalescer) (b
 pub record TriesColumn (s : BatchCoalescer) (books : List ℕ) (t : BatchCoalescer) (books′ : List ℕ) : Type 0 where
   pub tries : Tries s books t books′
   pub buffered : t .buffered .0 ≡ s .buffered .0
+
+-- a column of views, where no more numbers are listed than n
+pub record Bufferable (s : BatchCoalescer) (books : List ℕ) (c n : ℕ) : Type 0 where
+  pub trying : Trying s books
+  pub column : c < s .columns
+  pub views : isViews s c ≡ true
+  pub most : listLength (world s [] [] books) (s .place) c ≤ n
 
 -- n rows from row `from` on of one column, where it is compacted
 pub record Compactable (s : BatchCoalescer) (body : List ℕ) (r : ColumnRecord) (way : Way) (c from n : ℕ) : Type 0 where

@@ -3,12 +3,10 @@
 ghost use mathlib.Core.Path.{_≡_};
 ghost use mathlib.Core.Bool.{true};
 ghost use Prim.Native.Nat.{_+_, _*_, _≤_, _<_};
-ghost use mathlib.Core.List.{[]};
 ghost use lib.ListN.{length};
-ghost use Rattle.state.specs.World.{world};
-ghost use Rattle.state.specs.Layout.{isViews, listLength};
+ghost use Rattle.state.specs.Layout.{isViews};
 ghost use Rattle.trial_truth.specs.Like.{Buffers, TellsAttached, TellsCompacted, TellsColumn};
-ghost use Rattle.trial_column.specs.Trying.{Trying, TriesColumn, Compactable};
+ghost use Rattle.trial_column.specs.Trying.{Trying, TriesColumn, Bufferable, Compactable};
 use byte_view::Source;
 use counts::ByteSum;
 use room::Chosen;
@@ -20,8 +18,7 @@ use state::OpenBlock;
 
 // next_buffer on trial, where the list has n numbers: 10, then 11 and 12.
 fn try_buffer(s: BatchCoalescer, books: &mut [u8], c: u32, n: u32, min: ByteSum) -> Step
-    requires { ⌜ (Trying s (now books)) × (c < s .columns) × (isViews s c ≡ true)
-        × (listLength (world s [] [] (now books)) (s .place) c ≤ n) ⌝ }
+    requires { ⌜ Bufferable s (now books) c n ⌝ }
     ensures { λ q. ⌜ (TriesColumn s (now (books .entry)) (q .state) (now (books .exit)))
         × (Buffers s (now (books .entry)) c n (min .0) q (now (books .exit))) ⌝ }
 {

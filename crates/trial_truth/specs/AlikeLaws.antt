@@ -160,30 +160,42 @@ over-listed {s} {n} {p} l (suc count) r h =
 
 -- ---- a block taken in both
 
-pub taken-alike : {s t : List ℕ} {n i : ℕ} {e f : Entry} → Alike s t → usedOf (taken s i e) ≡ cond (ltb i (usedOf s)) (usedOf s) (i + 1) → usedOf (taken t i f) ≡ cond (ltb i (usedOf t)) (usedOf t) (i + 1) → Changed s (taken s i e) n i e → Changed t (taken t i f) n i f → i ≤ usedOf s → isFree e ≡ false → isFree f ≡ false → f .start ≡ e .start → f .capacity .0 ≡ e .capacity .0 → Alike (taken s i e) (taken t i f)
-taken-alike {s} {t} {n} {i} {e} {f} a u v c d l x y p q =
+-- at the number i, by an entry each: e in the books s and f in the books t, of the same place in the pool
+pub record TakenBoth (s t : List ℕ) (n i : ℕ) (e f : Entry) : Type 0 where
+  pub used : usedOf (taken s i e) ≡ cond (ltb i (usedOf s)) (usedOf s) (i + 1)
+  pub used′ : usedOf (taken t i f) ≡ cond (ltb i (usedOf t)) (usedOf t) (i + 1)
+  pub changed : Changed s (taken s i e) n i e
+  pub changed′ : Changed t (taken t i f) n i f
+  pub most : i ≤ usedOf s
+  pub live : isFree e ≡ false
+  pub live′ : isFree f ≡ false
+  pub start-is : f .start ≡ e .start
+  pub capacity-is : f .capacity .0 ≡ e .capacity .0
+
+pub taken-alike : {s t : List ℕ} {n i : ℕ} {e f : Entry} → Alike s t → TakenBoth s t n i e f → Alike (taken s i e) (taken t i f)
+taken-alike {s} {t} {n} {i} {e} {f} a o =
     record {
-      used = v ∙ rw (a .used) (sym u);
+      used = o .used′ ∙ rw (a .used) (sym (o .used));
       free = λ k h. free k h (ℕ-discrete k i);
       start = λ k h g. start k h g (ℕ-discrete k i);
       capacity = λ k h g. capacity k h g (ℕ-discrete k i);
     }
   where
     old : (k : ℕ) → k < usedOf (taken s i e) → k ≢ i → k < usedOf s
-    old k h m = go (decLt i (usedOf s)) (rw u at h)
+    old k h m = go (decLt i (usedOf s)) (rw (o .used) at h)
       where
         go : Dec (i < usedOf s) → k < cond (ltb i (usedOf s)) (usedOf s) (i + 1) → k < usedOf s
         go (yes z) g = rw (lt-ltb i (usedOf s) z) at g
-        go (no z) g = let j : k < i + 1 = rw (le-ltb i (usedOf s) (omega arith)) at g in omega arith
+        go (no z) g = let j : k < i + 1 = rw (le-ltb i (usedOf s) (omega arith)) at g in omega (arith, o .most)
 
     free : (k : ℕ) → k < usedOf (taken s i e) → Dec (k ≡ i) → isFree (entryOf (taken t i f) k) ≡ isFree (entryOf (taken s i e) k)
-    free k h (yes m) = rw (m, c .same, d .same) (y ∙ sym x)
-    free k h (no m) = rw (c .other k m, d .other k m) (a .free k (old k h m))
+    free k h (yes m) = rw (m, o .changed .same, o .changed′ .same) (o .live′ ∙ sym (o .live))
+    free k h (no m) = rw (o .changed .other k m, o .changed′ .other k m) (a .free k (old k h m))
 
     start : (k : ℕ) → k < usedOf (taken s i e) → isFree (entryOf (taken s i e) k) ≡ false → Dec (k ≡ i) → entryOf (taken t i f) k .start ≡ entryOf (taken s i e) k .start
-    start k h g (yes m) = rw (m, c .same, d .same) p
-    start k h g (no m) = let z : isFree (entryOf s k) ≡ false = rw (c .other k m) at g in rw (c .other k m, d .other k m) (a .start k (old k h m) z)
+    start k h g (yes m) = rw (m, o .changed .same, o .changed′ .same) (o .start-is)
+    start k h g (no m) = let z : isFree (entryOf s k) ≡ false = rw (o .changed .other k m) at g in rw (o .changed .other k m, o .changed′ .other k m) (a .start k (old k h m) z)
 
     capacity : (k : ℕ) → k < usedOf (taken s i e) → isFree (entryOf (taken s i e) k) ≡ false → Dec (k ≡ i) → entryOf (taken t i f) k .capacity .0 ≡ entryOf (taken s i e) k .capacity .0
-    capacity k h g (yes m) = rw (m, c .same, d .same) q
-    capacity k h g (no m) = let z : isFree (entryOf s k) ≡ false = rw (c .other k m) at g in rw (c .other k m, d .other k m) (a .capacity k (old k h m) z)
+    capacity k h g (yes m) = rw (m, o .changed .same, o .changed′ .same) (o .capacity-is)
+    capacity k h g (no m) = let z : isFree (entryOf s k) ≡ false = rw (o .changed .other k m) at g in rw (o .changed .other k m, o .changed′ .other k m) (a .capacity k (old k h m) z)

@@ -57,9 +57,15 @@ module _ {s : BatchCoalescer} {books : List ℕ} {b : Batch} {c : ℕ} {v : Worl
   pub new-follows : {n : ℕ} {q : Step} {books′ : List ℕ} → columnOf s c .block ≡ OpenBlock.Closed → n ≡ closedLength (world s [] [] books) c → Buffers s books c n (ideal v b c) q books′ → Follows (partCompacted v b c at from m) b (c + 1) q books′
   new-follows {n} {q} {books′} z p t =
       rw (opens-new o)
-      (open-follows (like-more (c + 1) (omega arith) a) roomy h y
-      (ap (λ (x : Column). x .source) (column-at a e h y))
-      (λ source block. ap (λ (x : BatchCoalescer). withColumn x c source block) e)
+      (open-follows
+      (record {
+        like = like-more (c + 1) (omega arith) a;
+        roomy = roomy;
+        column = h;
+        views = y;
+        source = ap (λ (x : Column). x .source) (column-at a e h y);
+        put = λ source block. ap (λ (x : BatchCoalescer). withColumn x c source block) e;
+      })
       (ideal v b c) at from m (part-ideal v b c from m there)
       (p ∙ closed-at a e h y ∙ closed-none o)
       t)
@@ -175,6 +181,6 @@ module _ {s : BatchCoalescer} {books : List ℕ} {b : Batch} {c : ℕ} {v : Worl
     pub walk-follows : {n : ℕ} {q : Step} {books′ : List ℕ} → rest < ideal v b c → n ≡ closedLength (world s [] [] books) c → Buffers s books c n (ideal v b c - longBefore v b c from j) q books′ → Follows (partCompacted v b c at from m) b (c + 1) q books′
     walk-follows {n} {q} {books′} l p t =
         rw (splits l, first .is)
-        (open-follows like roomy h y source-at put-at (ideal v b c - longBefore v b c from j) (at + j) (from + j) (m - j) behind
+        (open-follows (record { like = like; roomy = roomy; column = h; views = y; source = source-at; put = put-at }) (ideal v b c - longBefore v b c from j) (at + j) (from + j) (m - j) behind
         (p ∙ closed-at a e h y ∙ list-at)
         t)

@@ -118,6 +118,14 @@ pub record TellsAttached (s : BatchCoalescer) (books : List ℕ) (r : ColumnReco
 pub record TellsCompacted (s : BatchCoalescer) (books body : List ℕ) (r : ColumnRecord) (size c from n : ℕ) (q : Step) (books′ : List ℕ) : Type 0 where
   pub tells : (rows : ℕ) (records : List ℕ) (v : World) (at : ℕ) → r ≡ recordOf (batch rows records body) c → from + n ≤ rows → size ≡ ideal v (batch rows records body) c → v .state ≡ s → Like s books (batch rows records body) c v → Follows (partCompacted v (batch rows records body) c at from n) (batch rows records body) (c + 1) q books′
 
--- a part, the way that was decided
+-- a column of the batch whose part is tried: its record r, and what was decided of it in the world v of the push
+pub record ColumnBegins (s : BatchCoalescer) (books : List ℕ) (b : Batch) (r : ColumnRecord) (x : Source) (c : ℕ) (v : World) : Type 0 where
+  pub recorded : r ≡ recordOf b c
+  pub ideal-is : isViews s c ≡ true → x .ideal .0 ≡ ideal v b c
+  pub plain : isViews s c ≡ false → x .way ≡ Way.Copied
+  pub state : v .state ≡ s
+  pub like : Like s books b c v
+
+-- its part, the way that was decided
 pub record TellsColumn (s : BatchCoalescer) (books body : List ℕ) (r : ColumnRecord) (x : Source) (c from n : ℕ) (q : Step) (books′ : List ℕ) : Type 0 where
-  pub tells : (rows : ℕ) (records : List ℕ) (v : World) (at : ℕ) → r ≡ recordOf (batch rows records body) c → from + n ≤ rows → (isViews s c ≡ true → x .ideal .0 ≡ ideal v (batch rows records body) c) → (isViews s c ≡ false → x .way ≡ Way.Copied) → v .state ≡ s → Like s books (batch rows records body) c v → Follows (byWay v (batch rows records body) c at from n (x .way)) (batch rows records body) (c + 1) q books′
+  pub tells : (rows : ℕ) (records : List ℕ) (v : World) (at : ℕ) → from + n ≤ rows → ColumnBegins s books (batch rows records body) r x c v → Follows (byWay v (batch rows records body) c at from n (x .way)) (batch rows records body) (c + 1) q books′

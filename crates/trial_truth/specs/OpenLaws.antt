@@ -87,7 +87,19 @@ small-fits start size p hold listings h f a b =
 
 -- ---- a block opened in both
 
-module _ {s : BatchCoalescer} {books : List ℕ} {b : Batch} {c : ℕ} {v : World} (a : Like s books b (c + 1) v) (roomy : Roomy books (s .numbers)) (h : c < s .columns) (y : isViews s c ≡ true) (src : columnOf (v .state) c .source ≡ columnOf s c .source) (put : (source : BufferSource) (block : OpenBlock) → withColumn (v .state) c source block ≡ withColumn s c source block) (min at from m : ℕ) (l : longBefore v b c from m ≤ min) where
+-- a column of views at which the push and its trial stand alike, but for a block that was closed: what is put there makes them the same
+pub record MayOpen (s : BatchCoalescer) (books : List ℕ) (b : Batch) (c : ℕ) (v : World) : Type 0 where
+  pub like : Like s books b (c + 1) v
+  pub roomy : Roomy books (s .numbers)
+  pub column : c < s .columns
+  pub views : isViews s c ≡ true
+  pub source : columnOf (v .state) c .source ≡ columnOf s c .source
+  pub put : (source : BufferSource) (block : OpenBlock) → withColumn (v .state) c source block ≡ withColumn s c source block
+
+module _ {s : BatchCoalescer} {books : List ℕ} {b : Batch} {c : ℕ} {v : World} (o : MayOpen s books b c v) (min at from m : ℕ) (l : longBefore v b c from m ≤ min) where
+  abbrev a : Like s books b (c + 1) v
+  a = o .like
+
   abbrev size : ℕ
   size = sizeFor s c min
 
@@ -95,20 +107,20 @@ module _ {s : BatchCoalescer} {books : List ℕ} {b : Batch} {c : ℕ} {v : Worl
   source = asked (columnOf s c .source) (record { 0 = min }) .source
 
   same-size : asked (columnOf (v .state) c .source) (record { 0 = min }) .size .0 ≡ size
-  same-size = rw src
+  same-size = rw (o .source)
 
   same-source : asked (columnOf (v .state) c .source) (record { 0 = min }) .source ≡ source
-  same-source = rw src
+  same-source = rw (o .source)
 
   same-chosen : chosen (v .books) (v .state .numbers) (length (v .pool)) (asked (columnOf (v .state) c .source) (record { 0 = min }) .size .0) ≡ chosen books (s .numbers) (s .pool .0) size
   same-chosen =
       rw (same-size, a .set-up .numbers, a .run .fit .pool-is, a .set-up .pool) (alike-chosen (a .alike) (s .numbers) (s .pool .0) size)
 
   h′ : c < v .state .columns
-  h′ = omega (arith, a .set-up .columns)
+  h′ = omega (arith, o .column, a .set-up .columns)
 
   y′ : isViews (v .state) c ≡ true
-  y′ = same-views (a .set-up) c ∙ y
+  y′ = same-views (a .set-up) c ∙ o .views
 
   small : s .pool .0 < 2 ^ 32
   small = omega (arith, run-bounds (a .run) .pool, ap (λ p. p .0) (a .set-up .pool))
@@ -130,7 +142,7 @@ module _ {s : BatchCoalescer} {books : List ℕ} {b : Batch} {c : ℕ} {v : Worl
     fits = omega (arith, found .gap .fits)
 
     tried : Changed books (taken books i mark) (s .numbers) i mark
-    tried = taken-changed i roomy (found .number .below) mark (small-fits (room .start) size (s .pool .0) 2 0 fits small (omega arith) (omega arith))
+    tried = taken-changed i (o .roomy) (found .number .below) mark (small-fits (room .start) size (s .pool .0) 2 0 fits small (omega arith) (omega arith))
 
     roomy′ : Roomy (v .books) (s .numbers)
     roomy′ = rw (a .set-up .numbers) at (run-firm (a .run) .books .roomy)
@@ -141,15 +153,17 @@ module _ {s : BatchCoalescer} {books : List ℕ} {b : Batch} {c : ℕ} {v : Worl
     both : Alike (taken books i mark) (taken (v .books) i real)
     both =
         taken-alike (a .alike)
-        (used-taken i mark roomy (found .number .below))
-        (used-taken i real roomy′ (found .number .below))
-        tried
-        done
-        (free-most books i (s .numbers) (found .number))
-        (marked-live (room .start) size)
-        (opened-live (room .start) size)
-        refl
-        refl
+        (record {
+          used = used-taken i mark (o .roomy) (found .number .below);
+          used′ = used-taken i real roomy′ (found .number .below);
+          changed = tried;
+          changed′ = done;
+          most = free-most books i (s .numbers) (found .number);
+          live = marked-live (room .start) size;
+          live′ = opened-live (room .start) size;
+          start-is = refl;
+          capacity-is = refl;
+        })
 
     abbrev u : World
     u = inState (inBooks v (taken (v .books) i real)) (withColumn (v .state) c source (OpenBlock.Number (room .number)))
@@ -177,7 +191,7 @@ module _ {s : BatchCoalescer} {books : List ℕ} {b : Batch} {c : ℕ} {v : Worl
       t = withColumn s c source (OpenBlock.Number (room .number))
 
       state : w .state ≡ t
-      state = fills .state ∙ put source (OpenBlock.Number (room .number))
+      state = fills .state ∙ o .put source (OpenBlock.Number (room .number))
 
       abbrev marked : List ℕ
       marked = taken books i mark
@@ -201,7 +215,7 @@ module _ {s : BatchCoalescer} {books : List ℕ} {b : Batch} {c : ℕ} {v : Worl
           n (sym (ap (λ (x : BufferNumber). x .0) q))
 
       more : usedOf books ≤ usedOf marked
-      more = rw (used-taken i mark roomy (found .number .below)) (more-used (usedOf books) i)
+      more = rw (used-taken i mark (o .roomy) (found .number .below)) (more-used (usedOf books) i)
 
       like : Like t marked b (c + 1) w
       like =

@@ -108,9 +108,14 @@ module _ {s : BatchCoalescer} {books : List ℕ} {x : Sources} {records body : L
 
       follows : Follows (byWay bits b c (u .state .buffered .0) from n (getD (x .column) c noSource .way)) b (c + 1) q books″
       follows =
-          o .tells rows records bits (u .state .buffered .0) (p ∙ record-same records body rows c) l ideal-at plain-at
-          (bits-state u b c (u .state .buffered .0) from n ∙ z .state)
-          bits-like
+          o .tells rows records bits (u .state .buffered .0) l
+          (record {
+            recorded = p ∙ record-same records body rows c;
+            ideal-is = ideal-at;
+            plain = plain-at;
+            state = bits-state u b c (u .state .buffered .0) from n ∙ z .state;
+            like = bits-like;
+          })
 
       copied : columnCopied w₀ u b c from n ≡ byWay bits b c (u .state .buffered .0) from n (getD (x .column) c noSource .way)
       unfolding columnCopied

@@ -107,17 +107,17 @@ module _ {s : BatchCoalescer} {books body : List ℕ} {r : ColumnRecord} {x : So
   pub tells-copied : x .way ≡ Way.Copied → TellsColumn s books body r x c from n (record { state = s; number = 0 }) books
   tells-copied z =
       record {
-        tells = λ rows records v at p l i d e a.
+        tells = λ rows records v at l g.
             rw z
             (record {
               done = λ o.
                   record {
                     world = valuesCopied v (batch rows records body) c (filling v) at from n;
                     is = refl;
-                    state = copied-state v (batch rows records body) c at from n ∙ e;
+                    state = copied-state v (batch rows records body) c at from n ∙ g .state;
                     like =
                         like-more (c + 1) (omega arith)
-                        (like-slots a (values-goes (batch rows records body) c (filling v) at from n (a .run)) (copied-state v (batch rows records body) c at from n) (copied-books v (batch rows records body) c at from n));
+                        (like-slots (g .like) (values-goes (batch rows records body) c (filling v) at from n (g .like .run)) (copied-state v (batch rows records body) c at from n) (copied-books v (batch rows records body) c at from n));
                   };
               not = λ o. absurd (o refl);
             });
@@ -126,8 +126,8 @@ module _ {s : BatchCoalescer} {books body : List ℕ} {r : ColumnRecord} {x : So
   pub tells-attaches : {q : Step} → x .way ≡ Way.Attached → TellsAttached s books r c q → TellsColumn s books body r x c from n q books
   tells-attaches z t =
       record {
-        tells = λ rows records v at p l i d e a.
-            rw z (t .tells (batch rows records body) v at from n p (by-views s c x Way.Attached (isViews s c) refl not-attached z d) e a);
+        tells = λ rows records v at l g.
+            rw z (t .tells (batch rows records body) v at from n (g .recorded) (by-views s c x Way.Attached (isViews s c) refl not-attached z (g .plain)) (g .state) (g .like));
       }
     where
       not-attached : Way.Attached ≡ Way.Copied → ⊥
@@ -136,8 +136,8 @@ module _ {s : BatchCoalescer} {books body : List ℕ} {r : ColumnRecord} {x : So
   pub tells-compacts : {q : Step} {books′ : List ℕ} → x .way ≡ Way.Compacted → TellsCompacted s books body r (x .ideal .0) c from n q books′ → TellsColumn s books body r x c from n q books′
   tells-compacts z t =
       record {
-        tells = λ rows records v at p l i d e a.
-            rw z (t .tells rows records v at p l (i (by-views s c x Way.Compacted (isViews s c) refl not-compacted z d)) e a);
+        tells = λ rows records v at l g.
+            rw z (t .tells rows records v at (g .recorded) l (g .ideal-is (by-views s c x Way.Compacted (isViews s c) refl not-compacted z (g .plain))) (g .state) (g .like));
       }
     where
       not-compacted : Way.Compacted ≡ Way.Copied → ⊥

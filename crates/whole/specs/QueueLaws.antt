@@ -5,13 +5,12 @@ use mathlib.Core.Logic.{_≢_}
 use mathlib.Core.List.{List, []}
 use native.Mathlib.Omega.{arith}
 use lib.ListN.{length}
-use Rattle.tallies.specs.Tally.{withTally}
 use Rattle.state.specs.declared.BatchCoalescer.{BatchCoalescer}
 use Rattle.state.specs.World.{World, world}
-use Rattle.state.specs.Layout.{valuesPlace, booksLength, listLength, tally, nextSlot}
+use Rattle.state.specs.Layout.{valuesPlace, booksLength, listLength}
 use Rattle.layout.specs.Few.{Few}
 use Rattle.rules.specs.Batch.{Batch, batch, recordOf}
-use Rattle.rules.specs.Steps.{ok, each, withCounts, queueing}
+use Rattle.rules.specs.Steps.{ok, each, queueing}
 use Rattle.rules.specs.Views.{filling, bitsCopied, valuesCopied, listAttached}
 use Rattle.rules.specs.Push.{finished, columnWhole, columnsWhole, queuedWhole}
 use Rattle.rules.specs.Held.{holds-ok}
@@ -27,7 +26,7 @@ use Rattle.rules.specs.declared.Step.{Step}
 use Rattle.rules.specs.Leaves.{steps-done, steps-refused, steps-next, steps-stop}
 use Rattle.columns.specs.SourceLaws.{list-same}
 use Rattle.open_blocks.specs.AskLaws.{zeros, length-zeros, run-booked, booked-few, booked-place, booked-books}
-use Rattle.finishing.specs.Finish.{Closable, Finishes}
+use Rattle.finishing.specs.Finish.{Closable, Finishes, QueuesSlot}
 use Rattle.finishing.specs.AnswerLaws.{finished-steps}
 use Rattle.finishing.specs.FinishLaws.{each-more, queued-is}
 use Rattle.whole.specs.Whole.{wholeRefusal, rowsWhole, Columned, LaysColumn, Asks, Wholly, LaysColumns, QueuesWhole, QueuesFirst}
@@ -165,14 +164,14 @@ module _ (s : BatchCoalescer) (slots books : List ℕ) (rows : ℕ) (records bod
       pub whole-fits : Wholly s slots books (batch rows records body)
       whole-fits = record { asks = x; room = λ c h. omega (arith, told .1 c h, count-any rows records body c) }
 
-    pub whole-done : {slots′ books′ books″ : List ℕ} {u : BatchCoalescer} → LaysColumns s slots books (batch rows records body) (s .columns) slots′ books′ → u ≡ withCounts s (nextSlot s (s .place)) (s .queued + 1) 0 → books″ ≡ withTally books′ (tally s (s .place) 0) rows → QueuesWhole s slots books (batch rows records body) (record { state = u; number = 0 }) slots′ books″
-    whole-done {slots′} {books′} {books″} {u} k p q =
+    pub whole-done : {slots′ books′ books″ : List ℕ} {u : BatchCoalescer} → LaysColumns s slots books (batch rows records body) (s .columns) slots′ books′ → QueuesSlot s books′ rows u books″ → QueuesWhole s slots books (batch rows records body) (record { state = u; number = 0 }) slots′ books″
+    whole-done {slots′} {books′} {books″} {u} k q =
         record {
           steps = λ pool. steps-done
               (whole-goes (world s slots pool books) (batch rows records body) (any pool) z
               ∙ ap ok
               (ap (λ (v : World). queueing v rows) (columns-is s slots pool books (batch rows records body) ∙ k .is pool)
-              ∙ queued-is s slots′ pool books′ rows p q));
+              ∙ queued-is slots′ pool q));
         }
 
 -- ---- finish_first

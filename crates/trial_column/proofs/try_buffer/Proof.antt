@@ -36,7 +36,7 @@ returns-2 : tie.Need-returns-2
 returns-2 c = (search (buffer-opened, c .before .before .before .before .before .before .before .before .before .before .before .before .before .before .before .before .before .pre, c .before .before .before .before .before .before .before .before .before .before .before .before .before .before .if1 .taken, c .before .before .before .before .before .before .before .before .before .before .before .before .before .column-of .ensures, c .before .before .before .before .before .before .before .before .before .before .before .next-size .ensures, c .before .before .before .before .before .before .before .before .try-block .ensures, c .with-column .ensures, needs), search (buffers-opened, c .before .before .before .before .before .before .before .before .before .before .before .before .before .before .if1 .taken, c .before .before .before .before .before .before .before .before .before .before .before .before .before .column-of .ensures, c .before .before .before .before .before .before .before .before .before .before .before .next-size .ensures, c .before .before .before .before .before .before .before .before .try-block .ensures, c .with-column .ensures, needs))
 
 returns-3 : tie.Need-returns-3
-returns-3 c = (column-none (c .before .before .before .pre .0), buffers-full _ _ _ (c .if1 .left))
+returns-3 c = (column-none (c .before .before .before .pre .trying), buffers-full _ _ _ (c .if1 .left))
 
 pub try-buffer-spec : {M : Type 1} → statement M
 try-buffer-spec =
