@@ -1,6 +1,6 @@
 //! Refusals 1 and 14: set-up's bounds, the lengths of lent memory, and a state out of range.
 
-use super::basics::{Refused, is_view, unless, width};
+use super::basics::{Refused, unless, width};
 use super::state::State;
 use super::world::World;
 use puffwidget::Memory;
@@ -72,7 +72,7 @@ fn entry_in_range(world: &World, i: usize) -> Result<(), Refused> {
 fn list_in_range(world: &World, slot: usize, c: usize) -> Result<(), Refused> {
     let s = &world.state;
     let count = world.count(slot, 1 + c);
-    if !is_view(s.column[c].kind) {
+    if !s.is_view(c) {
         return unless(count == 0, 14, "a list of a column that is not of views");
     }
     unless(count <= s.lists, 14, "a list over B")?;
@@ -87,7 +87,7 @@ fn list_in_range(world: &World, slot: usize, c: usize) -> Result<(), Refused> {
 fn column_in_range(world: &World, c: usize) -> Result<(), Refused> {
     let s = &world.state;
     let column = &s.column[c];
-    if !is_view(column.kind) {
+    if !s.is_view(c) {
         return Ok(());
     }
     unless(column.kept >= 4_096, 14, "a view column's kept block size below 4,096")?;

@@ -165,16 +165,21 @@ impl Player {
         self.end_with_counts();
     }
 
-    /// What a row of a column of the front batch shows, if it is there: null, or its bytes.
+    /// What a row of a column of the front batch shows, if it is there: null, or its bytes. A value outside its buffer, which no history
+    /// leaves, shows as one of no bytes.
     fn cell(&mut self, column: u32, row: u32) -> Option<Option<Vec<u8>>> {
         let Ok(Answer::Row(answer)) = self.call(&Call::ReadRow(column, row)) else { return None };
         Some(match answer {
             RowAnswer::Null => None,
             RowAnswer::InRow { start, length } => Some(self.memory.slots[start as usize..][..length as usize].to_vec()),
-            RowAnswer::InBuffer { number, offset, length } => match self.call(&Call::ReadBuffer(number)) {
-                Ok(Answer::Part(bytes)) => Some(bytes[offset as usize..][..length as usize].to_vec()),
-                _ => unreachable!("a listed buffer is live"),
-            },
+            RowAnswer::InBuffer { number, offset, length } => {
+                let part = match self.call(&Call::ReadBuffer(number)) {
+                    Ok(Answer::Part(bytes)) => bytes,
+                    _ => Vec::new(),
+                };
+                let end = offset as usize + length as usize;
+                Some(part.get(offset as usize..end).unwrap_or_default().to_vec())
+            }
         })
     }
 
