@@ -2,7 +2,6 @@
 mod calls;
 mod rows;
 
-ghost use Prim.Native.Nat.{_≤_};
 use answers::part;
 use capture::Call;
 use capture::Fetched;
@@ -92,22 +91,20 @@ fn one_call(
 ) {
     let x = f.call;
     let brought = part(second, 0, f.second);
-    let a = least(lent.slots, slots.len());
-    let b = least(lent.pool, pool.len());
-    let c = least(lent.books, books.len());
-    let s = &mut slots[0..a];
-    let p = &mut pool[0..b];
-    let k = &mut books[0..c];
+    let s = front(slots, lent.slots);
+    let p = front(pool, lent.pool);
+    let k = front(books, lent.books);
     rows::look(job, state, s, p, k, x);
     let answer = calls::make(state, s, p, k, part(first, 0, f.first), brought, x);
     tell(job, x, brought, answer, state);
 }
 
-// The smaller of two lengths.
-fn least(a: usize, b: usize) -> usize
-    ensures { λ r. ⌜ r ≤ b ⌝ }
-{
-    if a < b { a } else { b }
+// The first n bytes of a memory, or all where there are fewer.
+fn front(s: &mut [u8], n: usize) -> &mut [u8] {
+    if n <= s.len() {
+        return &mut s[0..n];
+    }
+    s
 }
 
 // A call that was made, told with what the state then says.
