@@ -20,7 +20,7 @@ pub fn play(job: Job, slots: &mut [u8], pool: &mut [u8], books: &mut [u8], secon
     play_calls(job, &mut state, slots, pool, books, &mut first, second);
 }
 
-// Call after call, until there is none.
+// Call after call, until there is none: at most a million, the drops of a table among them.
 fn play_calls(
     job: Job,
     state: &mut [u8],
@@ -36,7 +36,7 @@ fn play_calls(
         books: 0,
     };
     let mut turns: u32 = 0;
-    while turns < 4000000000 {
+    while turns < 1000000 {
         let f = next_call(job, state, first, second);
         if f.more {
             let call = f.call;
@@ -63,7 +63,7 @@ fn next_call(job: Job, state: &[u8], first: &mut [u8], second: &mut [u8]) -> Fet
     }
 }
 
-// A call as a table hears it: calls 8 to 12 are for tests, and pass.
+// A call as a table hears it: what is not set-up, a change of a batch or a loan of memory passes, as text would.
 fn heard(f: Fetched) -> Fetched {
     let mut call = f.call;
     if 7 < call.what && call.what != 13 {
@@ -109,8 +109,9 @@ fn front(s: &mut [u8], n: usize) -> &mut [u8] {
 
 // A call that was made, told with what the state then says.
 fn tell(job: Job, x: Call, second: &[u8], answer: u64, state: &[u8]) {
+    let told = answers::answer_in(answer);
     match job {
-        Job::Table => table::line(x, answer),
-        Job::Telling => telling::line(x, second, answer, calls::counts(state)),
+        Job::Table => table::line(x, told),
+        Job::Telling => telling::line(x, second, told, calls::counts(state)),
     }
 }
