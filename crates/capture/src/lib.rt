@@ -137,7 +137,7 @@ pub fn write(text: &[u8]) {
     io::write_all(STDOUT_FILENO, text);
 }
 
-pub fn say(text: &[u8], number: u64) {
+pub fn say(text: &[u8], number: u32) {
     io::write_all(STDOUT_FILENO, text);
-    io::print_decimal(STDOUT_FILENO, number);
+    io::print_decimal(STDOUT_FILENO, number as u64);
 }

@@ -1,11 +1,13 @@
-// Both sides of each edge of document 01, and each refusal: plays the capture on standard input and prints what every call answers.
-// The expected output is what the plain model of document 01 in host/runs/model says, written apart from this code.
+// Both sides of each edge of document 01, and each refusal: plays the capture on standard input and prints what every call answers, and the
+// rows of each batch that is dropped. What it must print is said by a model of document 01, written apart from this code (host/runs/model).
 use player::Job;
 
+// Room for the slots, the pool and the bytes of a call.
 fn new_memory() -> [u8; 262144] {
     [0; 262144]
 }
 
+// Room for the books, with 65,536 numbers.
 fn new_books() -> [u8; 1400000] {
     [0; 1400000]
 }

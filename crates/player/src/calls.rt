@@ -37,21 +37,11 @@ pub fn completed(state: &[u8]) -> u32 {
 pub fn counts(state: &[u8]) -> Counts {
     Counts {
         buffered: capi::pw_get_buffered_rows(state),
-        queued: word_at(state, 40),
+        queued: answers::word_at(state, 40),
         completed: completed(state),
         empty: capi::pw_is_empty(state),
-        limit: capi::pw_biggest_coalesce_batch_size(state),
+        limit: answers::answer_in(capi::pw_biggest_coalesce_batch_size(state)),
     }
-}
-
-// A word of a memory, 0 where it is not all there.
-pub fn word_at(s: &[u8], at: usize) -> u32 {
-    if at < 4294967296 {
-        if at + 4 <= s.len() {
-            return words::get32(s, at);
-        }
-    }
-    0
 }
 
 // A word of a memory overwritten, as no history would: 0 the state, 1 the slots, else the books. Answers 0.
@@ -65,6 +55,7 @@ fn poke(state: &mut [u8], slots: &mut [u8], books: &mut [u8], x: Call) -> u64 {
     }
 }
 
+// The word v at a place, where there is one. Answers 0.
 fn put_word(s: &mut [u8], at: usize, v: u32) -> u64 {
     if at < 4294967296 {
         if at + 4 <= s.len() {

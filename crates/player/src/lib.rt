@@ -2,7 +2,6 @@
 mod calls;
 mod rows;
 
-ghost use Prim.Native.Nat.{_≤_};
 use answers::part;
 use capture::Call;
 use capture::Fetched;
@@ -21,7 +20,7 @@ pub fn play(job: Job, slots: &mut [u8], pool: &mut [u8], books: &mut [u8], secon
     play_calls(job, &mut state, slots, pool, books, &mut first, second);
 }
 
-// Call after call, until there is none.
+// Call after call, until there is none: at most a million, the drops of a table among them.
 fn play_calls(
     job: Job,
     state: &mut [u8],
@@ -37,7 +36,7 @@ fn play_calls(
         books: 0,
     };
     let mut turns: u32 = 0;
-    while turns < 4000000000 {
+    while turns < 1000000 {
         let f = next_call(job, state, first, second);
         if f.more {
             let call = f.call;
@@ -64,7 +63,7 @@ fn next_call(job: Job, state: &[u8], first: &mut [u8], second: &mut [u8]) -> Fet
     }
 }
 
-// A call as a table hears it: calls 8 to 12 are for tests, and pass.
+// A call as a table hears it: what is not set-up, a change of a batch or a loan of memory passes, as text would.
 fn heard(f: Fetched) -> Fetched {
     let mut call = f.call;
     if 7 < call.what && call.what != 13 {
@@ -92,28 +91,27 @@ fn one_call(
 ) {
     let x = f.call;
     let brought = part(second, 0, f.second);
-    let a = least(lent.slots, slots.len());
-    let b = least(lent.pool, pool.len());
-    let c = least(lent.books, books.len());
-    let s = &mut slots[0..a];
-    let p = &mut pool[0..b];
-    let k = &mut books[0..c];
+    let s = front(slots, lent.slots);
+    let p = front(pool, lent.pool);
+    let k = front(books, lent.books);
     rows::look(job, state, s, p, k, x);
     let answer = calls::make(state, s, p, k, part(first, 0, f.first), brought, x);
     tell(job, x, brought, answer, state);
 }
 
-// The smaller of two lengths.
-fn least(a: usize, b: usize) -> usize
-    ensures { λ r. ⌜ r ≤ b ⌝ }
-{
-    if a < b { a } else { b }
+// The first n bytes of a memory, or all where there are fewer.
+fn front(s: &mut [u8], n: usize) -> &mut [u8] {
+    if n <= s.len() {
+        return &mut s[0..n];
+    }
+    s
 }
 
 // A call that was made, told with what the state then says.
 fn tell(job: Job, x: Call, second: &[u8], answer: u64, state: &[u8]) {
+    let told = answers::answer_in(answer);
     match job {
-        Job::Table => table::line(x, answer),
-        Job::Telling => telling::line(x, second, answer, calls::counts(state)),
+        Job::Table => table::line(x, told),
+        Job::Telling => telling::line(x, second, told, calls::counts(state)),
     }
 }

@@ -17,16 +17,18 @@ pub fn look(job: Job, state: &[u8], slots: &[u8], pool: &[u8], books: &[u8], x: 
     }
 }
 
+// Where a cell is; of its bytes none are shown.
 fn show_place(state: &[u8], slots: &[u8], pool: &[u8], books: &[u8], column: u32, row: u32) {
-    let mut bytes = [0u8; 20];
+    let mut bytes = [0u8; 1];
     let cell = calls::cell(state, slots, pool, books, column, row, &mut bytes);
     telling::place(column, row, cell);
 }
 
+// A buffer's bytes, at most 64 of them.
 fn show_buffer(state: &[u8], slots: &[u8], pool: &[u8], books: &[u8], number: u32) {
     let mut bytes = [0u8; 64];
     let answer = calls::buffer(state, slots, pool, books, number, &mut bytes);
-    telling::buffer(number, answer, &bytes);
+    telling::buffer(number, answers::answer_in(answer), &bytes);
 }
 
 // The rows of the front batch, cell by cell: until a row is not there.
@@ -34,11 +36,7 @@ fn show_rows(job: Job, state: &[u8], slots: &[u8], pool: &[u8], books: &[u8]) {
     let columns = columns_of(job, state);
     let mut k: u32 = 0;
     while k < columns * 65536 {
-        if show_cell(job, state, slots, pool, books, columns, k) {
-            k += 1;
-        } else {
-            return;
-        }
+        k = show_cell(job, state, slots, pool, books, columns, k);
     }
 }
 
@@ -48,12 +46,19 @@ fn columns_of(job: Job, state: &[u8]) -> u32
 {
     match job {
         Job::Table => 4,
-        Job::Telling => calls::word_at(state, 12) % 17,
+        Job::Telling => at_most_16(answers::word_at(state, 12)),
     }
 }
 
-// Cell k of the front batch, counted row by row; answers whether its row is there. Of a buffer the first 65,536 bytes are read: a value that
-// lies farther back shows as one of no bytes. The captures at hand have none.
+// A number of columns that set-up allows.
+fn at_most_16(n: u32) -> u32
+    ensures { λ r. ⌜ r ≤ 16 ⌝ }
+{
+    if n <= 16 { n } else { 16 }
+}
+
+// Cell k of the front batch, counted row by row; answers which is shown next. Of a buffer the first 65,536 bytes are read: a value that lies
+// farther back shows as one of no bytes. The captures at hand have none.
 fn show_cell(
     job: Job,
     state: &[u8],
@@ -62,8 +67,9 @@ fn show_cell(
     books: &[u8],
     columns: u32,
     k: u32,
-) -> bool
-    requires { ⌜ 0 < columns ⌝ }
+) -> u32
+    requires { ⌜ (0 < columns) × (columns ≤ 16) × (k < 1048576) ⌝ }
+    ensures { λ r. ⌜ k < r ⌝ }
 {
     let column = k % columns;
     let mut bytes = io::large_buffer();
@@ -74,17 +80,41 @@ fn show_cell(
         columns - 1,
         cell,
         answers::bytes_of(slots, &bytes, cell),
-    )
+    );
+    next_cell(columns, k, column, cell.refusal)
 }
 
-// A cell, told; answers whether its row is there: whether its first cell is.
-fn tell_cell(job: Job, column: u32, last: u32, cell: Cell, bytes: &[u8]) -> bool {
-    if cell.refusal != 0 && column == 0 {
-        return false;
+// A cell, told; one that is refused ends its row.
+fn tell_cell(job: Job, column: u32, last: u32, cell: Cell, bytes: &[u8]) {
+    if cell.refusal != 0 {
+        end_row(column);
+        return;
     }
     match job {
-        Job::Table => table::cell(column, cell, bytes),
-        Job::Telling => telling::cell(column, last, cell, bytes),
+        Job::Table => table::cell(column, cell.kind, bytes),
+        Job::Telling => telling::cell(column, last, cell.kind, bytes),
     }
-    true
+}
+
+// The end of a row that was begun.
+fn end_row(column: u32) {
+    if column != 0 {
+        capture::write(b"\n");
+    }
+}
+
+// The cell behind cell k; where that was refused the next row's first, and none where it was its row's first itself.
+fn next_cell(columns: u32, k: u32, column: u32, refusal: u32) -> u32
+    requires { ⌜ (columns ≤ 16) × (k < 1048576) ⌝ }
+    ensures { λ r. ⌜ k < r ⌝ }
+{
+    if refusal == 0 {
+        k + 1
+    } else if column == 0 {
+        1048576
+    } else if column < columns {
+        k + (columns - column)
+    } else {
+        k + 1
+    }
 }

@@ -1,7 +1,8 @@
-// Histories whose answers the Rust text was seen to give: plays the capture on standard input and prints what every call answers, and every
-// row of each batch that is read.
+// Histories whose answers the Rust text was seen to give: plays the capture on standard input and prints what every call answers, and the
+// rows of each batch that is dropped.
 use player::Job;
 
+// Room for the pool.
 fn new_pool() -> [u8; 300000] {
     [0; 300000]
 }

@@ -1,45 +1,45 @@
 // Prints the rows of a match as a table, batch by batch, and beside it what the box does: for the program `court`. It is handed answers, and
 // sees no memory.
-use answers::Cell;
-use answers::refusal_in;
-use answers::value_in;
+use answers::Answer;
 use capture::Call;
 use capture::say;
 use capture::write;
 use libc::STDOUT_FILENO;
 
 // The line of a call that was made, or none: set-up with the table's head, a push, the end, a batch that was taken.
-pub fn line(x: Call, answer: u64) {
+pub fn line(x: Call, answer: Answer) {
     let what = x.what;
     match what {
-        1 => head(x.a as u64, answer),
+        1 => head(x.a, answer.number),
         4 => {
-            beside(b"the box sends ");
-            io::print_decimal(STDOUT_FILENO, x.a as u64);
-            end_line(refusal_in(answer));
+            beside();
+            say(b"the box sends ", x.a);
+            end_line(answer.number);
         }
         5 => {
-            beside(b"the match ends");
-            end_line(refusal_in(answer));
+            beside();
+            write(b"the match ends");
+            end_line(answer.number);
         }
-        6 => taken(value_in(answer)),
+        6 => taken(answer.value),
         _ => {}
     }
 }
 
-fn head(target: u64, answer: u64) {
+// Set-up, and what stands above the columns.
+fn head(target: u32, refusal: u32) {
     say(b"rows the strip takes at once: ", target);
-    end_line(refusal_in(answer));
+    end_line(refusal);
     write(b"row  side   event   player\n");
 }
 
-// A line at the right, beside the table: what the box does.
-fn beside(text: &[u8]) {
+// To the right of the table, where lines stand that say what the box does.
+fn beside() {
     write(b"                                        ");
-    write(text);
 }
 
-fn end_line(refusal: u64) {
+// The end of such a line.
+fn end_line(refusal: u32) {
     if refusal != 0 {
         say(b", refused ", refusal);
     }
@@ -47,18 +47,16 @@ fn end_line(refusal: u64) {
 }
 
 // Behind the rows of a batch; a drop that found none prints nothing.
-fn taken(rows: u64) {
+fn taken(rows: u32) {
     if rows != 0 {
         say(b"---- rows to the strip: ", rows);
         write(b"\n");
     }
 }
 
-// A cell of the table, blank where its read was refused.
-pub fn cell(column: u32, c: Cell, bytes: &[u8]) {
-    if c.refusal == 0 {
-        write_cell(column, c.kind, bytes);
-    }
+// A cell of the table.
+pub fn cell(column: u32, kind: u32, bytes: &[u8]) {
+    write_cell(column, kind, bytes);
     if column < 3 {
         write(b"  ");
     } else {
@@ -77,6 +75,7 @@ fn write_cell(column: u32, kind: u32, bytes: &[u8]) {
     }
 }
 
+// A number, or the word that it stands for.
 fn write_value(column: u32, value: u64) {
     if column == 0 {
         write_number(value);
@@ -87,6 +86,7 @@ fn write_value(column: u32, value: u64) {
     }
 }
 
+// One word for 1, and another for all else.
 fn pick(value: u64, one: &[u8], other: &[u8]) {
     if value == 1 {
         write(one);
@@ -116,6 +116,7 @@ fn number_of(s: &[u8]) -> u64 {
     }
 }
 
+// A byte as a number.
 fn wide(b: u8) -> u64 {
     b as u64
 }

@@ -1,23 +1,21 @@
 // Prints a call of a capture and what it answered, a line a call; and the rows of a batch in hexadecimal. For the programs `edges` and
 // `replay`. It is handed answers: of the memories it sees the books alone, which it shows.
-ghost use Prim.Native.Nat.{_+_, _≤_};
-ghost use lib.ListN.{length};
+use answers::Answer;
 use answers::Cell;
 use answers::Counts;
-use answers::refusal_in;
-use answers::value_in;
+use answers::word_at;
 use capture::Call;
 use capture::say;
 use capture::write;
 use libc::STDOUT_FILENO;
 
 // The line of a call that was made, with the text or the bytes that it brought. Calls that read print by the functions below.
-pub fn line(x: Call, second: &[u8], answer: u64, counts: Counts) {
+pub fn line(x: Call, second: &[u8], answer: Answer, counts: Counts) {
     let what = x.what;
     match what {
         1..=7 => {
-            name(x, second.len() as u64);
-            tell_answer(refusal_in(answer));
+            name(x, second.len());
+            tell_answer(answer.number);
             tell_rest(what, answer, counts);
             write(b"\n");
         }
@@ -34,41 +32,52 @@ fn note(text: &[u8]) {
 }
 
 // A call's name and numbers.
-fn name(x: Call, size: u64) {
+fn name(x: Call, size: usize) {
     let what = x.what;
     match what {
         1 => name_set_up(x),
-        2 => name_two(b"register ", size, b" of ", x.a as u64),
-        3 => say(b"let go ", x.a as u64),
-        4 => say(b"push ", x.a as u64),
+        2 => name_register(size, x.a),
+        3 => say(b"let go ", x.a),
+        4 => say(b"push ", x.a),
         5 => write(b"finish"),
         6 => write(b"drop"),
         _ => name_limit(x.a, x.b),
     }
 }
 
+// Set-up's name and numbers.
 fn name_set_up(x: Call) {
-    say(b"set-up T ", x.a as u64);
-    say(b" R ", x.b as u64);
-    say(b" Q ", x.c as u64);
-    say(b" B ", x.d as u64);
-    say(b" N ", x.e as u64);
+    say(b"set-up T ", x.a);
+    say(b" R ", x.b);
+    say(b" Q ", x.c);
+    say(b" B ", x.d);
+    say(b" N ", x.e);
 }
 
-fn name_two(text: &[u8], a: u64, between: &[u8], b: u64) {
+// How many bytes are registered, with which capacity.
+fn name_register(size: usize, capacity: u32) {
+    write(b"register ");
+    io::print_decimal(STDOUT_FILENO, size as u64);
+    say(b" of ", capacity);
+}
+
+// Two numbers, each behind its text.
+fn name_two(text: &[u8], a: u32, between: &[u8], b: u32) {
     say(text, a);
     say(between, b);
 }
 
+// The limit asked for, or none.
 fn name_limit(set: u32, rows: u32) {
     if set == 0 {
         write(b"limit none");
     } else {
-        say(b"limit ", rows as u64);
+        say(b"limit ", rows);
     }
 }
 
-fn tell_answer(refusal: u64) {
+// Whether the call was done, or the number of the refusal.
+fn tell_answer(refusal: u32) {
     if refusal == 0 {
         write(b": done");
     } else {
@@ -77,80 +86,76 @@ fn tell_answer(refusal: u64) {
 }
 
 // What stands behind an answer: a value, the limit, the rows buffered and the batches queued.
-fn tell_rest(what: u32, answer: u64, counts: Counts) {
+fn tell_rest(what: u32, answer: Answer, counts: Counts) {
     match what {
         2 => tell_number(answer),
         3 => {}
         6 => {
-            say(b", rows ", value_in(answer));
+            say(b", rows ", answer.value);
             tell_counts(counts);
         }
-        7 => name_two(
-            b", set ",
-            refusal_in(counts.limit),
-            b" to ",
-            value_in(counts.limit),
-        ),
+        7 => {
+            let limit = counts.limit;
+            name_two(b", set ", limit.number, b" to ", limit.value);
+        }
         _ => tell_counts(counts),
     }
 }
 
-fn tell_number(answer: u64) {
-    if refusal_in(answer) == 0 {
-        say(b", number ", value_in(answer));
+// The number of the buffer that was registered.
+fn tell_number(answer: Answer) {
+    if answer.number == 0 {
+        say(b", number ", answer.value);
     }
 }
 
+// The rows buffered and the batches queued.
 fn tell_counts(counts: Counts) {
-    say(b", buffered ", counts.buffered as u64);
-    say(b", queued ", counts.queued as u64);
+    say(b", buffered ", counts.buffered);
+    say(b", queued ", counts.queued);
 }
 
-// has_completed_batch and is_empty.
+// The counts by themselves: rows buffered, has_completed_batch and is_empty.
 fn tell_flags(counts: Counts) {
-    say(b"counts: buffered ", counts.buffered as u64);
-    say(b", completed ", counts.completed as u64);
-    say(b", empty ", counts.empty as u64);
+    say(b"counts: buffered ", counts.buffered);
+    say(b", completed ", counts.completed);
+    say(b", empty ", counts.empty);
     write(b"\n");
 }
 
 // A row's answer, a line: null, or where it is.
 pub fn place(column: u32, row: u32, cell: Cell) {
-    name_two(b"row ", row as u64, b" of column ", column as u64);
-    tell_answer(cell.refusal as u64);
+    name_two(b"row ", row, b" of column ", column);
+    tell_answer(cell.refusal);
     if cell.refusal == 0 {
         tell_place(cell);
     }
     write(b"\n");
 }
 
+// In its row, or in a buffer.
 fn tell_place(cell: Cell) {
     if cell.kind == 0 {
         write(b", null");
     } else if cell.kind == 1 {
-        name_two(
-            b", in its row at ",
-            cell.place as u64,
-            b", length ",
-            cell.length as u64,
-        );
+        name_two(b", in its row at ", cell.place, b", length ", cell.length);
     } else {
-        name_two(
-            b", in buffer ",
-            cell.place as u64,
-            b" at ",
-            cell.offset as u64,
-        );
-        say(b", length ", cell.length as u64);
+        name_two(b", in buffer ", cell.place, b" at ", cell.offset);
+        say(b", length ", cell.length);
     }
 }
 
 // A buffer's bytes, as many as were read of them, and the number beside them.
-pub fn buffer(number: u32, answer: u64, read: &[u8]) {
-    name_two(b"buffer ", number as u64, b": bytes ", value_in(answer));
-    tell_answer(refusal_in(answer));
+pub fn buffer(number: u32, answer: Answer, read: &[u8]) {
+    name_two(b"buffer ", number, b": bytes ", answer.value);
+    tell_answer(answer.number);
+    quote(front(read, answer.value as usize));
+}
+
+// Bytes between quotes, and the line's end.
+fn quote(bytes: &[u8]) {
     write(b", '");
-    write(front(read, value_in(answer) as usize));
+    write(bytes);
     write(b"'\n");
 }
 
@@ -162,18 +167,21 @@ fn front(s: &[u8], n: usize) -> &[u8] {
     s
 }
 
-// A cell of a row: two spaces before the first and one before each other, a line's end behind the last. A cell whose read was refused is blank.
-pub fn cell(column: u32, last: u32, c: Cell, bytes: &[u8]) {
+// A cell of a row: two spaces before the first and one before each other, a line's end behind the last.
+pub fn cell(column: u32, last: u32, kind: u32, bytes: &[u8]) {
+    indent(column);
+    tell_value(kind, bytes);
+    if column == last {
+        write(b"\n");
+    }
+}
+
+// What stands before a cell.
+fn indent(column: u32) {
     if column == 0 {
         write(b"  ");
     } else {
         write(b" ");
-    }
-    if c.refusal == 0 {
-        tell_value(c.kind, bytes);
-    }
-    if column == last {
-        write(b"\n");
     }
 }
 
@@ -188,6 +196,7 @@ fn tell_value(kind: u32, bytes: &[u8]) {
     }
 }
 
+// Two digits a byte.
 fn tell_bytes(s: &[u8]) {
     let mut i: usize = 0;
     while i < s.len() {
@@ -196,37 +205,53 @@ fn tell_bytes(s: &[u8]) {
     }
 }
 
+// A byte in hexadecimal.
 fn tell_byte(b: u8) {
     io::print_hex(STDOUT_FILENO, b as u64, 2);
 }
 
-// The entries of the books that are in use.
+// The entries of the books that are in use, as far as they are there.
 pub fn show_books(books: &[u8]) {
     if books.len() < 4 {
         return;
     }
-    let used = words::get32(books, 0);
-    say(b"books: in use ", used as u64);
+    let used = word_at(books, 0);
+    say(b"books: in use ", used);
     write(b"\n");
+    show_entries(books, least(used, (books.len() - 4) / 20));
+}
+
+// The smaller of two numbers of entries.
+fn least(used: u32, room: usize) -> u32 {
+    if used as usize <= room {
+        used
+    } else {
+        room as u32
+    }
+}
+
+// The first n entries.
+fn show_entries(books: &[u8], n: u32) {
     let mut i: u32 = 0;
-    while i < used {
-        let at = 4 + 20 * (i as usize);
-        if books.len() < at + 20 {
-            return;
-        }
-        show_entry(books, at, i);
+    while i < n {
+        show_entry(books, i);
         i += 1;
     }
 }
 
-fn show_entry(books: &[u8], at: usize, i: u32)
-    requires { ⌜ at + 20 ≤ length (now books) ⌝ }
-{
-    say(b"  ", i as u64);
-    say(b": start ", words::get32(books, at) as u64);
-    say(b", capacity ", words::get32(books, at + 4) as u64);
-    say(b", length ", words::get32(books, at + 8) as u64);
-    say(b", hold ", words::get32(books, at + 12) as u64);
-    say(b", listings ", words::get32(books, at + 16) as u64);
+// Entry i: its five words.
+fn show_entry(books: &[u8], i: u32) {
+    let at = 4 + 20 * (i as usize);
+    say(b"  ", i);
+    tell_word(b": start ", books, at);
+    tell_word(b", capacity ", books, at + 4);
+    tell_word(b", length ", books, at + 8);
+    tell_word(b", hold ", books, at + 12);
+    tell_word(b", listings ", books, at + 16);
     write(b"\n");
+}
+
+// A word of the books behind its text.
+fn tell_word(text: &[u8], books: &[u8], at: usize) {
+    say(text, word_at(books, at));
 }

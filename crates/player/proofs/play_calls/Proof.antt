@@ -7,10 +7,10 @@ use Rattle.player.proofs.play_calls.Statement.{statement}
 use Rattle.player.proofs.play_calls.Tie as tie
 
 abbrev Inv-loop : tie.InvT-loop
-Inv-loop job state₀ slots₀ pool₀ books₀ first₀ second₀ lent₀ turns₀ state slots pool books first second lent turns = (turns ≤ 4000000000) × (length state ≡ length state₀) × (length slots ≡ length slots₀) × (length pool ≡ length pool₀) × (length books ≡ length books₀) × (length first ≡ length first₀) × (length second ≡ length second₀)
+Inv-loop job state₀ slots₀ pool₀ books₀ first₀ second₀ lent₀ turns₀ state slots pool books first second lent turns = (turns ≤ 1000000) × (length state ≡ length state₀) × (length slots ≡ length slots₀) × (length pool ≡ length pool₀) × (length books ≡ length books₀) × (length first ≡ length first₀) × (length second ≡ length second₀)
 
 abbrev μ-loop : tie.MeasureT-loop
-μ-loop job state₀ slots₀ pool₀ books₀ first₀ second₀ lent₀ turns₀ state slots pool books first second lent turns = 4000000000 - turns
+μ-loop job state₀ slots₀ pool₀ books₀ first₀ second₀ lent₀ turns₀ state slots pool books first second lent turns = 1000000 - turns
 
 loop-holds : tie.Need-loop-holds Inv-loop μ-loop
 loop-holds c = search needs

@@ -5,7 +5,7 @@ use Rattle.player.proofs.rows.show_rows.Statement.{statement}
 use Rattle.player.proofs.rows.show_rows.Tie as tie
 
 abbrev Inv-loop : tie.InvT-loop
-Inv-loop job state slots pool books columns k₀ k = (columns ≤ 16) × (k ≤ columns * 65536)
+Inv-loop job state slots pool books columns k₀ k = columns ≤ 16
 
 abbrev μ-loop : tie.MeasureT-loop
 μ-loop job state slots pool books columns k₀ k = columns * 65536 - k
@@ -22,9 +22,6 @@ mul-loop c = search needs
 show-cell-requires : tie.Need-show-cell-requires Inv-loop μ-loop
 show-cell-requires c κs = search needs
 
-add-k : tie.Need-add-k Inv-loop μ-loop
-add-k c = search needs
-
 loop-less : tie.Need-loop-less Inv-loop μ-loop
 loop-less c = search needs
 
@@ -33,9 +30,6 @@ loop-again c = search needs
 
 returns : tie.Need-returns Inv-loop μ-loop
 returns c = search needs
-
-returns-2 : tie.Need-returns-2 Inv-loop μ-loop
-returns-2 c = search needs
 
 pub show-rows-spec : {M : Type 1} → statement M
 show-rows-spec =
@@ -47,8 +41,6 @@ show-rows-spec =
     loop-holds
     mul-loop
     show-cell-requires
-    add-k
     loop-less
     loop-again
-    returns
-    returns-2)
+    returns)
