@@ -1,11 +1,12 @@
 -- The exits of the checks of a column and of the batch.
-use Prim.Native.Nat.{ℕ, _*_, _<_}
+use Prim.Native.Nat.{ℕ, _*_, _≤_, _<_}
 use mathlib.Core.Path.{_≡_, refl, sym, _∙_, ap}
 use mathlib.Core.Bool.{Bool, true, false}
 use mathlib.Core.List.{List, []}
 use mathlib.Core.Option.{Option, none, some}
 use native.Mathlib.Omega.{arith}
 use lib.ListN.{length}
+use borrow.Author.Tests.{lt-ltb, le-ltb}
 use Rattle.search.specs.First.{first}
 use Rattle.search.specs.FirstLaws.{at-says}
 use Rattle.kinds.specs.Kind.{isView, widthAt}
@@ -19,12 +20,21 @@ use Rattle.rules.specs.declared.Fault.{Fault}
 use Rattle.rules.specs.Batch.{Batch, batch, recordOf, listedBytes, valuePlace, rowView}
 use Rattle.rules.specs.Checks.{isRuled, keepsRules, inBody, liesWithin, liesInBody, heldAll, allHeld, validRow, badRow, fault, rowFault, faultOf, columnFault}
 use Rattle.rules.specs.ExitLaws.{column-four, column-five, column-six, column-none}
-use Rattle.checks.specs.Checked.{faultAt, badAt, badFrom, rowFaultOf}
+use Rattle.column_checks.specs.Tested.{badAt, badFrom}
+use Rattle.checks.specs.Checked.{faultAt, rowFaultOf}
 use Rattle.rules.specs.Views.{orAll}
-use Rattle.checks.specs.RuleLaws.{values-in}
-use Rattle.checks.specs.RowLaws.{row-some, row-none}
+use Rattle.column_checks.specs.RuleLaws.{values-in}
 
 -- ---- rows
+
+module _ (rows c : ℕ) {i n : ℕ} {f : Fault} where
+  pub row-some : i ≡ n → i < rows → f ≡ faultAt 7 c i → f ≡ rowFaultOf n rows c
+  unfolding rowFaultOf
+  row-some e l q = rw (← e, lt-ltb i rows l) q
+
+  pub row-none : i ≡ n → rows ≤ i → f ≡ faultAt 0 0 0 → f ≡ rowFaultOf n rows c
+  unfolding rowFaultOf
+  row-none e l q = rw (← e, le-ltb i rows l) q
 
 module _ (s : BatchCoalescer) (pool books records body : List ℕ) (rows c : ℕ) where
   no-view-row : isViews s c ≡ false → (i : ℕ) → validRow (world s [] pool books) (batch rows records body) c i ≡ true

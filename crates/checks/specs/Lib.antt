@@ -1,6 +1,4 @@
 -- What the checks of a batch ask, and the laws that their proofs cite.
 pub mod Checked
-pub mod RuleLaws
-pub mod RowLaws
 pub mod ColumnLaws
 pub mod BatchLaws

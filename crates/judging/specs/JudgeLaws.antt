@@ -9,8 +9,8 @@ use native.Mathlib.Decide.{ℕ-discrete}
 use native.Mathlib.Omega.{arith}
 use borrow.Author.Tests.{ne-eqb}
 use Rattle.words.specs.WordLaws.{Bytes}
-use Rattle.checks.specs.Checked.{Pooled}
-use Rattle.checks.specs.RuleLaws.{pooled}
+use Rattle.column_checks.specs.Tested.{Pooled}
+use Rattle.column_checks.specs.RuleLaws.{pooled}
 use Rattle.pool.specs.Read.{inRange}
 use Rattle.ranges.specs.SaysLaws.{says-range, says-pool, says-entries}
 use Rattle.state.specs.declared.BatchCoalescer.{BatchCoalescer}

@@ -1,7 +1,7 @@
 -- `checks::column_fault` meets its contract.
 use borrow.Author.Needs.{needs}
 use Rattle.checks.specs.ColumnLaws.{at-four, at-five, at-six, no-views, views-rows, rows-in}
-use Rattle.checks.specs.RuleLaws.{list-room, record-heeded}
+use Rattle.column_checks.specs.RuleLaws.{list-room, record-heeded}
 use Rattle.checks.proofs.column_fault.Statement.{statement}
 use Rattle.checks.proofs.column_fault.Tie as tie
 

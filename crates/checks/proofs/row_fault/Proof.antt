@@ -1,6 +1,6 @@
 -- `checks::row_fault` meets its contract.
 use borrow.Author.Needs.{needs}
-use Rattle.checks.specs.RowLaws.{row-some, row-none}
+use Rattle.checks.specs.ColumnLaws.{row-some, row-none}
 use Rattle.checks.proofs.row_fault.Statement.{statement}
 use Rattle.checks.proofs.row_fault.Tie as tie
 

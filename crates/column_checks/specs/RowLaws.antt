@@ -1,12 +1,12 @@
 -- The check 7: one view, and the first row whose view is not valid.
 use Prim.Native.Nat.{ℕ, _+_, _*_, _≤_, _<_}
 use mathlib.Core.Path.{_≡_, ap}
-use mathlib.Core.Bool.{Bool, true, false, not}
+use mathlib.Core.Bool.{Bool, true, false}
 use mathlib.Core.List.{List}
 use native.Mathlib.Omega.{arith}
 use lib.ListN.{length}
 use borrow.Author.Tests.{le-leb, lt-leb, lt-ltb, le-ltb}
-use Rattle.search.specs.First.{first, Passed}
+use Rattle.search.specs.First.{Passed}
 use Rattle.search.specs.FirstLaws.{passed-none, passed-more, passed-at, passed-all}
 use Rattle.words.specs.Word.{word32}
 use Rattle.books.specs.declared.Entry.{Entry}
@@ -16,12 +16,11 @@ use Rattle.views.specs.declared.View.{View}
 use Rattle.views.specs.declared.Buffer.{Buffer}
 use Rattle.views.specs.View.{viewOf, isPadded, inBuffer, isValid, filled}
 use Rattle.rules.specs.declared.ColumnRecord.{ColumnRecord}
-use Rattle.rules.specs.declared.Fault.{Fault}
 use Rattle.rules.specs.Batch.{bytesListed}
 use Rattle.rules.specs.Checks.{inBody}
 use Rattle.rules.specs.Views.{orAll}
-use Rattle.checks.specs.Checked.{bufferIn, faultAt, badAt, badFrom, rowFaultOf, Heeded}
-use Rattle.checks.specs.RuleLaws.{body-says, held-used}
+use Rattle.column_checks.specs.Tested.{bufferIn, badAt, badFrom, Heeded}
+use Rattle.column_checks.specs.RuleLaws.{body-says, held-used}
 
 -- ---- one view
 
@@ -79,12 +78,3 @@ module _ (books pool body : List ℕ) (r : ColumnRecord) where
   pub bad-all : {i : ℕ} (rows : ℕ) → Passed (badAt books pool body r) i → rows ≤ i → rows ≡ badFrom books pool body r rows
   unfolding badFrom
   bad-all rows o l = ap (orAll rows) (passed-all rows o l)
-
-module _ (rows c : ℕ) {i n : ℕ} {f : Fault} where
-  pub row-some : i ≡ n → i < rows → f ≡ faultAt 7 c i → f ≡ rowFaultOf n rows c
-  unfolding rowFaultOf
-  row-some e l q = rw (← e, lt-ltb i rows l) q
-
-  pub row-none : i ≡ n → rows ≤ i → f ≡ faultAt 0 0 0 → f ≡ rowFaultOf n rows c
-  unfolding rowFaultOf
-  row-none e l q = rw (← e, le-ltb i rows l) q

@@ -1,9 +1,9 @@
--- `checks::bitmap_need` meets its contract.
+-- `column_checks::bitmap_need` meets its contract.
 use native.Mathlib.Omega.{arith}
 use borrow.Author.Needs.{needs}
-use Rattle.checks.specs.RuleLaws.{need-none, need-some}
-use Rattle.checks.proofs.bitmap_need.Statement.{statement}
-use Rattle.checks.proofs.bitmap_need.Tie as tie
+use Rattle.column_checks.specs.RuleLaws.{need-none, need-some}
+use Rattle.column_checks.proofs.bitmap_need.Statement.{statement}
+use Rattle.column_checks.proofs.bitmap_need.Tie as tie
 
 add-result : tie.Need-add-result
 add-result c = search needs

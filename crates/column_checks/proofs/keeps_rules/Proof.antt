@@ -1,8 +1,8 @@
--- `checks::keeps_rules` meets its contract.
+-- `column_checks::keeps_rules` meets its contract.
 use borrow.Author.Needs.{needs}
-use Rattle.checks.specs.RuleLaws.{ruled-are}
-use Rattle.checks.proofs.keeps_rules.Statement.{statement}
-use Rattle.checks.proofs.keeps_rules.Tie as tie
+use Rattle.column_checks.specs.RuleLaws.{ruled-are}
+use Rattle.column_checks.proofs.keeps_rules.Statement.{statement}
+use Rattle.column_checks.proofs.keeps_rules.Tie as tie
 
 bit-ruled-requires : tie.Need-bit-ruled-requires
 bit-ruled-requires c κs = search needs

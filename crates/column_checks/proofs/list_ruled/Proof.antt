@@ -1,8 +1,8 @@
--- `checks::list_ruled` meets its contract.
+-- `column_checks::list_ruled` meets its contract.
 use borrow.Author.Needs.{needs}
-use Rattle.checks.specs.RuleLaws.{list-empty, list-some}
-use Rattle.checks.proofs.list_ruled.Statement.{statement}
-use Rattle.checks.proofs.list_ruled.Tie as tie
+use Rattle.column_checks.specs.RuleLaws.{list-empty, list-some}
+use Rattle.column_checks.proofs.list_ruled.Statement.{statement}
+use Rattle.column_checks.proofs.list_ruled.Tie as tie
 
 is-view-requires : tie.Need-is-view-requires
 is-view-requires c κs = search needs

@@ -1,8 +1,8 @@
--- `checks::buffer_of` meets its contract.
+-- `column_checks::buffer_of` meets its contract.
 use borrow.Author.Needs.{needs}
-use Rattle.checks.specs.RowLaws.{buffer-is}
-use Rattle.checks.proofs.buffer_of.Statement.{statement}
-use Rattle.checks.proofs.buffer_of.Tie as tie
+use Rattle.column_checks.specs.RowLaws.{buffer-is}
+use Rattle.column_checks.proofs.buffer_of.Statement.{statement}
+use Rattle.column_checks.proofs.buffer_of.Tie as tie
 
 entry-at-requires : tie.Need-entry-at-requires
 entry-at-requires c κs = search needs

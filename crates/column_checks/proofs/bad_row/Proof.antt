@@ -1,11 +1,11 @@
--- `checks::bad_row` meets its contract.
+-- `column_checks::bad_row` meets its contract.
 use Prim.Native.Nat.{_≤_, _-_}
 use borrow.Author.Needs.{needs}
 use Rattle.search.specs.First.{Passed}
-use Rattle.checks.specs.RowLaws.{row-room, bad-none, bad-more, bad-at, bad-all}
-use Rattle.checks.specs.Checked.{badAt}
-use Rattle.checks.proofs.bad_row.Statement.{statement}
-use Rattle.checks.proofs.bad_row.Tie as tie
+use Rattle.column_checks.specs.RowLaws.{row-room, bad-none, bad-more, bad-at, bad-all}
+use Rattle.column_checks.specs.Tested.{badAt}
+use Rattle.column_checks.proofs.bad_row.Statement.{statement}
+use Rattle.column_checks.proofs.bad_row.Tie as tie
 
 abbrev Inv-loop : tie.InvT-loop
 Inv-loop books pool body r rows i₀ i = (i ≤ rows) × Passed (badAt books pool body r) i

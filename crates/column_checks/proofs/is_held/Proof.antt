@@ -1,8 +1,8 @@
--- `checks::is_held` meets its contract.
+-- `column_checks::is_held` meets its contract.
 use borrow.Author.Needs.{needs}
-use Rattle.checks.specs.RuleLaws.{held-beyond, held-is, entry-room}
-use Rattle.checks.proofs.is_held.Statement.{statement}
-use Rattle.checks.proofs.is_held.Tie as tie
+use Rattle.column_checks.specs.RuleLaws.{held-beyond, held-is, entry-room}
+use Rattle.column_checks.proofs.is_held.Statement.{statement}
+use Rattle.column_checks.proofs.is_held.Tie as tie
 
 get32-requires : tie.Need-get32-requires
 get32-requires c κs = search needs

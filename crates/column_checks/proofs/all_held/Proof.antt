@@ -1,10 +1,10 @@
--- `checks::all_held` meets its contract.
+-- `column_checks::all_held` meets its contract.
 use Prim.Native.Nat.{_≤_, _<_, _-_, _^_}
 use borrow.Author.Needs.{needs}
 use Rattle.search.specs.Every.{All}
-use Rattle.checks.specs.RuleLaws.{heldAt, held-none, held-more, held-fails, held-done}
-use Rattle.checks.proofs.all_held.Statement.{statement}
-use Rattle.checks.proofs.all_held.Tie as tie
+use Rattle.column_checks.specs.RuleLaws.{heldAt, held-none, held-more, held-fails, held-done}
+use Rattle.column_checks.proofs.all_held.Statement.{statement}
+use Rattle.column_checks.proofs.all_held.Tie as tie
 
 abbrev Inv-loop : tie.InvT-loop
 Inv-loop books body list count i₀ i = (i ≤ count) × (list < 2 ^ 32) × (count < 2 ^ 32) × All (heldAt books body list) i

@@ -1,8 +1,8 @@
--- `checks::lies_in_body` meets its contract.
+-- `column_checks::lies_in_body` meets its contract.
 use borrow.Author.Needs.{needs}
-use Rattle.checks.specs.RuleLaws.{values-fit, values-few, lies-are}
-use Rattle.checks.proofs.lies_in_body.Statement.{statement}
-use Rattle.checks.proofs.lies_in_body.Tie as tie
+use Rattle.column_checks.specs.RuleLaws.{values-fit, values-few, lies-are}
+use Rattle.column_checks.proofs.lies_in_body.Statement.{statement}
+use Rattle.column_checks.proofs.lies_in_body.Tie as tie
 
 mul-in-body : tie.Need-mul-in-body
 mul-in-body c = search (values-fit, needs)

@@ -2,7 +2,7 @@
 use Prim.Native.Nat.{ℕ, _+_, _*_, _/_, _≤_, _<_, _^_}
 use mathlib.Core.Path.{_≡_, refl, sym, _∙_}
 use mathlib.Core.Bool.{Bool, true, false, _&&_, not, cond, and-eq-true-iff}
-use mathlib.Core.List.{List, []}
+use mathlib.Core.List.{List}
 use native.Mathlib.Omega.{arith}
 use native.Mathlib.Nat.{mul-le-mul}
 use native.Mathlib.Decide.{ℕ-discrete}
@@ -11,7 +11,7 @@ use lib.Dec.{leb, eqb}
 use borrow.Author.Tests.{lt-ltb, le-ltb, leb-true, eqb-true, eq-eqb, ne-eqb, ltb-true}
 use mir.Syntax.{w64}
 use mir.Val.{Fits}
-use Rattle.search.specs.Cases.{both, both-fails, both-rest}
+use Rattle.search.specs.Cases.{both}
 use Rattle.search.specs.Every.{every-says, All, all-none, all-more, all-fails, all-done}
 use Rattle.words.specs.Word.{word32}
 use Rattle.kinds.specs.Kind.{isView}
@@ -21,9 +21,9 @@ use Rattle.pool.specs.Register.{isHeld}
 use Rattle.pool.specs.Read.{inRange}
 use Rattle.pool.specs.ReadLaws.{range-says}
 use Rattle.rules.specs.declared.ColumnRecord.{ColumnRecord}
-use Rattle.rules.specs.Batch.{batch, recordOf, hasBitmap}
+use Rattle.rules.specs.Batch.{hasBitmap}
 use Rattle.rules.specs.Checks.{isRuled, inBody, bitmapNeed, liesWithin, heldAll}
-use Rattle.checks.specs.Checked.{bitRuled, listRuled, bitsWithin, Pooled, Heeded}
+use Rattle.column_checks.specs.Tested.{bitRuled, listRuled, bitsWithin, Pooled, Heeded}
 
 -- ---- 4
 

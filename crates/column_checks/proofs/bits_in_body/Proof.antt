@@ -1,8 +1,8 @@
--- `checks::bits_in_body` meets its contract.
+-- `column_checks::bits_in_body` meets its contract.
 use borrow.Author.Needs.{needs}
-use Rattle.checks.specs.RuleLaws.{bits-none, bits-some}
-use Rattle.checks.proofs.bits_in_body.Statement.{statement}
-use Rattle.checks.proofs.bits_in_body.Tie as tie
+use Rattle.column_checks.specs.RuleLaws.{bits-none, bits-some}
+use Rattle.column_checks.proofs.bits_in_body.Statement.{statement}
+use Rattle.column_checks.proofs.bits_in_body.Tie as tie
 
 bitmap-need-requires : tie.Need-bitmap-need-requires
 bitmap-need-requires c κs = search needs

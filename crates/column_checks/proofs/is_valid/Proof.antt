@@ -1,8 +1,8 @@
--- `checks::is_valid` meets its contract.
+-- `column_checks::is_valid` meets its contract.
 use borrow.Author.Needs.{needs}
-use Rattle.checks.specs.RowLaws.{listed-room, buffer-inside, valid-inline, valid-long, valid-beyond}
-use Rattle.checks.proofs.is_valid.Statement.{statement}
-use Rattle.checks.proofs.is_valid.Tie as tie
+use Rattle.column_checks.specs.RowLaws.{listed-room, buffer-inside, valid-inline, valid-long, valid-beyond}
+use Rattle.column_checks.proofs.is_valid.Statement.{statement}
+use Rattle.column_checks.proofs.is_valid.Tie as tie
 
 is-padded-requires : tie.Need-is-padded-requires
 is-padded-requires c κs = search needs

@@ -1,8 +1,8 @@
--- `checks::bit_ruled` meets its contract.
+-- `column_checks::bit_ruled` meets its contract.
 use borrow.Author.Needs.{needs}
-use Rattle.checks.specs.RuleLaws.{bit-none, bit-some}
-use Rattle.checks.proofs.bit_ruled.Statement.{statement}
-use Rattle.checks.proofs.bit_ruled.Tie as tie
+use Rattle.column_checks.specs.RuleLaws.{bit-none, bit-some}
+use Rattle.column_checks.proofs.bit_ruled.Statement.{statement}
+use Rattle.column_checks.proofs.bit_ruled.Tie as tie
 
 returns : tie.Need-returns
 returns c = search (bit-none, needs)

@@ -1,8 +1,8 @@
--- `checks::in_body` meets its contract.
+-- `column_checks::in_body` meets its contract.
 use borrow.Author.Needs.{needs}
-use Rattle.checks.specs.RuleLaws.{body-none, body-some}
-use Rattle.checks.proofs.in_body.Statement.{statement}
-use Rattle.checks.proofs.in_body.Tie as tie
+use Rattle.column_checks.specs.RuleLaws.{body-none, body-some}
+use Rattle.column_checks.proofs.in_body.Statement.{statement}
+use Rattle.column_checks.proofs.in_body.Tie as tie
 
 add-result : tie.Need-add-result
 add-result c = search needs
