@@ -51,7 +51,7 @@ fn copy_strings(
         index,
         start: block.start,
     };
-    let filled = byte_view::append_views_and_copy_strings_inner(
+    let filled = view_copies::append_views_and_copy_strings_inner(
         slots,
         pool,
         books,
@@ -265,7 +265,7 @@ fn attach_list(
     lists::append_list(s, slots, books, records, body, rows, r, p.column);
     let to = p.place + (p.at as usize) * 16;
     let from = (r.values as usize) + (p.from as usize) * 16;
-    byte_view::append_views_and_update_buffer_index(slots, to, body, from, p.count, k);
+    view_copies::append_views_and_update_buffer_index(slots, to, body, from, p.count, k);
 }
 
 // A part attached: the open block closed, the list behind it, and the views with their index raised. 10, the block counted.

@@ -1,11 +1,11 @@
--- `byte_view::append_views_and_update_buffer_index` meets its contract.
+-- `view_copies::append_views_and_update_buffer_index` meets its contract.
 use Prim.Native.Nat.{_≤_, _-_}
 use mathlib.Core.Path.{_≡_}
 use lib.ListN.{length}
 use borrow.Author.Needs.{needs}
 use Rattle.byte_view.specs.FoldLaws.{Raising, raising-none, raising-more, put-all, raises-at}
-use Rattle.byte_view.proofs.append_views_and_update_buffer_index.Statement.{statement}
-use Rattle.byte_view.proofs.append_views_and_update_buffer_index.Tie as tie
+use Rattle.view_copies.proofs.append_views_and_update_buffer_index.Statement.{statement}
+use Rattle.view_copies.proofs.append_views_and_update_buffer_index.Tie as tie
 
 abbrev Inv-loop : tie.InvT-loop
 Inv-loop slots₀ to body from n k i₀ slots i = (i ≤ n) × (n ≤ 65536) × (length slots ≡ length slots₀) × Raising slots₀ body to from k i slots

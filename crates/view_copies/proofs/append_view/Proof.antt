@@ -1,8 +1,8 @@
--- `byte_view::append_view` meets its contract.
+-- `view_copies::append_view` meets its contract.
 use borrow.Author.Needs.{needs}
 use Rattle.byte_view.specs.CopyLaws.{copyable-index, copyable-source, copyable-room, copied-inline, copied-long, copyable-fits, copyable-put}
-use Rattle.byte_view.proofs.append_view.Statement.{statement}
-use Rattle.byte_view.proofs.append_view.Tie as tie
+use Rattle.view_copies.proofs.append_view.Statement.{statement}
+use Rattle.view_copies.proofs.append_view.Tie as tie
 
 mul-at : tie.Need-mul-at
 mul-at c = search needs

@@ -1,12 +1,12 @@
--- `byte_view::append_views_and_copy_strings_inner` meets its contract.
+-- `view_copies::append_views_and_copy_strings_inner` meets its contract.
 use Prim.Native.Nat.{_≤_, _-_}
 use mathlib.Core.Path.{_≡_}
 use lib.ListN.{length}
 use borrow.Author.Needs.{needs}
 use Rattle.byte_view.specs.CopyLaws.{CopiedTo, copyable-at, copied-none, copied-more, far-all, pool-all}
 use Rattle.byte_view.specs.FoldLaws.{put-all}
-use Rattle.byte_view.proofs.append_views_and_copy_strings_inner.Statement.{statement}
-use Rattle.byte_view.proofs.append_views_and_copy_strings_inner.Tie as tie
+use Rattle.view_copies.proofs.append_views_and_copy_strings_inner.Statement.{statement}
+use Rattle.view_copies.proofs.append_views_and_copy_strings_inner.Tie as tie
 
 abbrev Inv-loop : tie.InvT-loop
 Inv-loop slots₀ pool₀ books body j n filled so-far₀ i₀ slots pool so-far i = (i ≤ n) × (n ≤ 65536) × (length slots ≡ length slots₀) × (length pool ≡ length pool₀) × CopiedTo books body slots₀ pool₀ j filled i so-far slots pool

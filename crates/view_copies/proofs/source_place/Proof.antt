@@ -1,9 +1,9 @@
--- `byte_view::source_place` meets its contract.
+-- `view_copies::source_place` meets its contract.
 use borrow.Author.Needs.{needs}
 use Rattle.byte_view.specs.CopyLaws.{source-is}
 use Rattle.byte_view.specs.FoldLaws.{entered-room, entered-listed}
-use Rattle.byte_view.proofs.source_place.Statement.{statement}
-use Rattle.byte_view.proofs.source_place.Tie as tie
+use Rattle.view_copies.proofs.source_place.Statement.{statement}
+use Rattle.view_copies.proofs.source_place.Tie as tie
 
 cast-get32 : tie.Need-cast-get32
 cast-get32 c = search needs

@@ -1,8 +1,8 @@
--- `byte_view::carry_view` meets its contract.
+-- `view_copies::carry_view` meets its contract.
 use borrow.Author.Needs.{needs}
 use Rattle.byte_view.specs.CopyLaws.{source-room, carry-is}
-use Rattle.byte_view.proofs.carry_view.Statement.{statement}
-use Rattle.byte_view.proofs.carry_view.Tie as tie
+use Rattle.view_copies.proofs.carry_view.Statement.{statement}
+use Rattle.view_copies.proofs.carry_view.Tie as tie
 
 source-place-requires : tie.Need-source-place-requires
 source-place-requires c κs = search needs
