@@ -32,7 +32,7 @@ fn drop_list(s: BatchCoalescer, slots: &[u8], books: &mut [u8], slot: u32, c: u3
     }
     let from = layout::list_place(s, slot, c);
     let end = from + 4 * (n as usize);
-    listings::unlist_all(books, s.numbers, &slots[from..end], n as usize);
+    list_changes::unlist_all(books, s.numbers, &slots[from..end], n as usize);
 }
 
 fn drop_lists(s: BatchCoalescer, slots: &[u8], books: &mut [u8], slot: u32)

@@ -55,6 +55,6 @@ pub fn append_list(
     let size = 4 * (r.count as usize);
     let end = from + size;
     words::put_part(slots, place + 4 * (n as usize), body, from, size);
-    listings::list_all(books, s.numbers, &body[from..end], r.count as usize);
+    list_changes::list_all(books, s.numbers, &body[from..end], r.count as usize);
     slot_counts::put_list_length(s, books, c, n + r.count);
 }

@@ -76,6 +76,6 @@ pub fn let_go(books: &mut [u8], number: BufferNumber) -> u32
     if e.hold == 0 {
         return 13;
     }
-    listings::release(books, i as usize);
+    list_changes::release(books, i as usize);
     0
 }

@@ -1,8 +1,8 @@
--- `listings::list_one` meets its contract.
+-- `list_changes::list_one` meets its contract.
 use borrow.Author.Needs.{needs}
 use Rattle.listings.specs.ListingLaws.{listed-is}
-use Rattle.listings.proofs.list_one.Statement.{statement}
-use Rattle.listings.proofs.list_one.Tie as tie
+use Rattle.list_changes.proofs.list_one.Statement.{statement}
+use Rattle.list_changes.proofs.list_one.Tie as tie
 
 mul-at : tie.Need-mul-at
 mul-at c = search needs

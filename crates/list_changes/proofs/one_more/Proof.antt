@@ -1,8 +1,8 @@
--- `listings::one_more` meets its contract.
+-- `list_changes::one_more` meets its contract.
 use borrow.Author.Needs.{needs}
 use Rattle.listings.specs.ListingLaws.{more-is, more-not}
-use Rattle.listings.proofs.one_more.Statement.{statement}
-use Rattle.listings.proofs.one_more.Tie as tie
+use Rattle.list_changes.proofs.one_more.Statement.{statement}
+use Rattle.list_changes.proofs.one_more.Tie as tie
 
 add-result : tie.Need-add-result
 add-result c = search needs

@@ -1,12 +1,12 @@
--- `listings::list_all` meets its contract.
+-- `list_changes::list_all` meets its contract.
 use Prim.Native.Nat.{_≤_, _-_}
 use mathlib.Core.Path.{_≡_}
 use lib.ListN.{length}
 use borrow.Author.Needs.{needs}
 use Rattle.listings.specs.Listing.{overList, listedOne}
 use Rattle.listings.specs.ListingLaws.{over-none, over-more, over-all, listed-room}
-use Rattle.listings.proofs.list_all.Statement.{statement}
-use Rattle.listings.proofs.list_all.Tie as tie
+use Rattle.list_changes.proofs.list_all.Statement.{statement}
+use Rattle.list_changes.proofs.list_all.Tie as tie
 
 abbrev Inv-loop : tie.InvT-loop
 Inv-loop books₀ n list count i₀ books i = (i ≤ count) × (length books ≡ length books₀) × (books ≡ overList listedOne books₀ list i)

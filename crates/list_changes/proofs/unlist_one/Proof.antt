@@ -1,8 +1,8 @@
--- `listings::unlist_one` meets its contract.
+-- `list_changes::unlist_one` meets its contract.
 use borrow.Author.Needs.{needs}
 use Rattle.listings.specs.ListingLaws.{unlisted-less, unlisted-none, word-room}
-use Rattle.listings.proofs.unlist_one.Statement.{statement}
-use Rattle.listings.proofs.unlist_one.Tie as tie
+use Rattle.list_changes.proofs.unlist_one.Statement.{statement}
+use Rattle.list_changes.proofs.unlist_one.Tie as tie
 
 mul-at : tie.Need-mul-at
 mul-at c = search needs

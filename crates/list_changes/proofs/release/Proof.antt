@@ -1,8 +1,8 @@
--- `listings::release` meets its contract.
+-- `list_changes::release` meets its contract.
 use borrow.Author.Needs.{needs}
 use Rattle.listings.specs.ListingLaws.{released-is, word-room}
-use Rattle.listings.proofs.release.Statement.{statement}
-use Rattle.listings.proofs.release.Tie as tie
+use Rattle.list_changes.proofs.release.Statement.{statement}
+use Rattle.list_changes.proofs.release.Tie as tie
 
 mul-put32 : tie.Need-mul-put32
 mul-put32 c = search needs

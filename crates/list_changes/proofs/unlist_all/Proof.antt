@@ -1,13 +1,13 @@
--- `listings::unlist_all` meets its contract.
+-- `list_changes::unlist_all` meets its contract.
 use Prim.Native.Nat.{_≤_, _<_, _-_, _^_}
 use mathlib.Core.Path.{_≡_}
 use lib.ListN.{length}
 use borrow.Author.Needs.{needs}
 use Rattle.books.specs.Entry.{usedOf}
 use Rattle.listings.specs.Listing.{overList, unlistedOne}
 use Rattle.listings.specs.ListingLaws.{over-none, over-more, over-all, listed-room, unlisted-still}
-use Rattle.listings.proofs.unlist_all.Statement.{statement}
-use Rattle.listings.proofs.unlist_all.Tie as tie
+use Rattle.list_changes.proofs.unlist_all.Statement.{statement}
+use Rattle.list_changes.proofs.unlist_all.Tie as tie
 
 abbrev Inv-loop : tie.InvT-loop
 Inv-loop books₀ n list count i₀ books i = (i ≤ count) × (n < 2 ^ 32) × (length books ≡ length books₀) × (usedOf books ≤ n) × (books ≡ overList unlistedOne books₀ list i)
