@@ -1,6 +1,6 @@
 // Plays the capture on standard input: the loop over its calls, for every program that plays one.
 mod calls;
-mod rows;
+mod shown;
 
 use answers::part;
 use capture::Call;
@@ -94,7 +94,7 @@ fn one_call(
     let s = front(slots, lent.slots);
     let p = front(pool, lent.pool);
     let k = front(books, lent.books);
-    rows::look(job, state, s, p, k, x);
+    shown::look(job, state, s, p, k, x);
     let answer = calls::make(state, s, p, k, part(first, 0, f.first), brought, x);
     tell(job, x, brought, answer, state);
 }

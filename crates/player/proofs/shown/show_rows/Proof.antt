@@ -1,8 +1,8 @@
--- `player::rows::show_rows` meets its contract.
+-- `player::shown::show_rows` meets its contract.
 use borrow.Author.Needs.{needs}
 use Prim.Native.Nat.{_≤_, _-_, _*_}
-use Rattle.player.proofs.rows.show_rows.Statement.{statement}
-use Rattle.player.proofs.rows.show_rows.Tie as tie
+use Rattle.player.proofs.shown.show_rows.Statement.{statement}
+use Rattle.player.proofs.shown.show_rows.Tie as tie
 
 abbrev Inv-loop : tie.InvT-loop
 Inv-loop job state slots pool books columns k₀ k = columns ≤ 16
