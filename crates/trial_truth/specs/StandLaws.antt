@@ -23,9 +23,8 @@ use Rattle.rules.specs.declared.Step.{Step}
 use Rattle.records.specs.RecordLaws.{record-same}
 use Rattle.routes.specs.declared.Route.{Route}
 use Rattle.routes.specs.declared.Sources.{Sources}
-use Rattle.routes.specs.Route.{routeOf}
+use Rattle.routes.specs.Route.{routeOf, wholeRefusal}
 use Rattle.routes.specs.RouteLaws.{route-says-whole, route-says-first, route-says-on}
-use Rattle.whole.specs.Whole.{wholeRefusal}
 use Rattle.push_safety.specs.Run.{Run, Readable}
 use Rattle.push_safety.specs.Firm.{same-list-length}
 use Rattle.trial_truth.specs.Alike.{Alike}

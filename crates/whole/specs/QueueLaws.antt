@@ -29,7 +29,8 @@ use Rattle.open_blocks.specs.AskLaws.{zeros, length-zeros, run-booked, booked-f
 use Rattle.finishing.specs.Finish.{Closable, Finishes, QueuesSlot}
 use Rattle.finishing.specs.AnswerLaws.{finished-steps}
 use Rattle.finishing.specs.FinishLaws.{each-more, queued-is}
-use Rattle.whole.specs.Whole.{wholeRefusal, rowsWhole, Columned, LaysColumn, Asks, Wholly, LaysColumns, QueuesWhole, QueuesFirst}
+use Rattle.routes.specs.Route.{wholeRefusal}
+use Rattle.whole.specs.Whole.{rowsWhole, Columned, LaysColumn, Asks, Wholly, LaysColumns, QueuesWhole, QueuesFirst}
 use Rattle.whole.specs.RefusalLaws.{whole-same, whole-refuses, whole-goes, whole-says}
 use Rattle.whole.specs.WholeLaws.{rows-firm, whole-is, moved}
 

@@ -15,7 +15,7 @@ use Rattle.rules.specs.Batch.{Batch, batch, recordOf}
 use Rattle.rules.specs.Steps.{ok, refuse, queueing}
 use Rattle.rules.specs.Views.{filling}
 use Rattle.rules.specs.Push.{columnsWhole, queuedWhole}
-use Rattle.whole.specs.Whole.{wholeRefusal}
+use Rattle.routes.specs.Route.{wholeRefusal}
 
 -- ---- try_whole
 

@@ -1,11 +1,8 @@
--- Queueing a batch whole: the number that it is refused with, what its steps ask, and what they leave.
+-- Queueing a batch whole: what its steps ask, and what they leave.
 use Prim.Native.Nat.{ℕ, _+_, _≤_, _<_}
 use mathlib.Core.Path.{_≡_}
-use mathlib.Core.Bool.{cond}
 use mathlib.Core.List.{List, []}
-use lib.Dec.{ltb, leb}
 use lib.ListN.{length}
-use Rattle.search.specs.Every.{every}
 use Rattle.state.specs.declared.BatchCoalescer.{BatchCoalescer}
 use Rattle.state.specs.World.{World, world}
 use Rattle.state.specs.Layout.{valuesPlace, slotsLength, listLength}
@@ -18,13 +15,6 @@ use Rattle.rules.specs.Leaves.{Steps}
 use Rattle.push_safety.specs.Run.{Readable}
 use Rattle.push_safety.specs.Firm.{Firm}
 use Rattle.open_blocks.specs.Open.{Booked}
-
--- 01: "Queueing whole tests 9, then 10 by columns."; 0 where neither refuses
-unfoldable pub wholeRefusal : World → Batch → ℕ
-wholeRefusal w b =
-    cond (ltb (w .state .queued) (w .state .queue))
-    (cond (every (λ c. leb (listLength w (filling w) c + recordOf b c .count) (w .state .lists)) (w .state .columns)) 0 10)
-    9
 
 -- ---- rows and lists
 
