@@ -8,3 +8,5 @@ pub mod Counts
 pub mod Reads
 pub mod Cells
 pub mod Refusals
+pub mod Buffers
+pub mod Columns

@@ -45,22 +45,22 @@ module _ {w : World} (g : Between w) (bytes : Bytes (w .slots)) (c i : ℕ) (h :
   view = viewOf (w .slots) at
 
   -- there is such a row
-  record Is : Type 0 where
-    queued : 0 < w .state .queued
-    column : c < w .state .columns
-    row : i < rowsIn w front
+  pub record Is : Type 0 where
+    pub queued : 0 < w .state .queued
+    pub column : c < w .state .columns
+    pub row : i < rowsIn w front
 
-  is : Is
+  pub is : Is
   unfolding isRow
   is =
       let p = and-eq-true-iff (ltb 0 (w .state .queued)) (ltb c (w .state .columns) && ltb i (rowsIn w front)) .0 h in
       let q = and-eq-true-iff (ltb c (w .state .columns)) (ltb i (rowsIn w front)) .0 (p .1) in
       record { queued = ltb-true 0 (w .state .queued) (p .0); column = ltb-true c (w .state .columns) (q .0); row = ltb-true i (rowsIn w front) (q .1) }
 
-  front-in : front ≤ w .state .queue
+  pub front-in : front ≤ w .state .queue
   front-in = queued-in (w .state) 0 (g .holding .run .fit .place)
 
-  front-other : front ≢ w .state .place
+  pub front-other : front ≢ w .state .place
   front-other = queued-place (w .state) (g .holding .run .fit .place) (g .holding .run .fit .queued) 0 (is .queued)
 
   in-slots : at + 1 * widthOf (w .state) c ≤ length (w .slots)
@@ -68,7 +68,7 @@ module _ {w : World} (g : Between w) (bytes : Bytes (w .slots)) (c i : ℕ) (h :
       omega (arith, cell-in (w .state) front c front-in (is .column) i 1 (omega (arith, is .row, g .holding .counted front front-in)), g .holding .run .fit .slots-are)
 
   -- a view of it is valid over the list
-  valid : isViews (w .state) c ≡ true → isValid view (bufferAt w front c) (listLength w front c) ≡ true
+  pub valid : isViews (w .state) c ≡ true → isValid view (bufferAt w front c) (listLength w front c) ≡ true
   valid y =
       rw (reach-other w front c y front-other) at
       (g .holding .valid front c i front-in (is .column) y (omega (arith, is .row, rows-other w (λ d. w .state .buffered .0) front c front-other)))
@@ -111,7 +111,7 @@ module _ (a : Wanted) (slots pool books : List ℕ) (ok : setUpCall a slots pool
   abbrev last : World
   last = did a slots pool books ok cs .world
 
-  last-bytes : Bytes (last .slots)
+  pub last-bytes : Bytes (last .slots)
   last-bytes =
       all a slots pool books ok cs .bytes
       (rw (ap (λ (r : Answered). r .world .slots) (set-up-done a slots pool books (set-up-zero a slots pool books ok))) bytes)

@@ -1,3 +1,4 @@
 -- The worked examples of document 01, computed on the definitions.
 pub mod Scene
 pub mod Worked
+pub mod Nulls
