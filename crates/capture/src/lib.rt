@@ -42,8 +42,17 @@ fn call_at(header: &[u8]) -> Call
     }
 }
 
+// What was read: whether there is a call, the call, and the lengths of its two runs of bytes.
+pub struct Fetched {
+    pub more: bool,
+    pub call: Call,
+    pub first: usize,
+    pub second: usize,
+}
+
 // The lent lengths after a call: a set-up, and call 13, say new ones.
-pub fn lent_after(lent: Lent, x: Call) -> Lent {
+pub fn lent_after(lent: Lent, f: Fetched) -> Lent {
+    let x = f.call;
     if x.what == 1 || x.what == 13 {
         Lent {
             slots: x.f as usize,
@@ -53,14 +62,6 @@ pub fn lent_after(lent: Lent, x: Call) -> Lent {
     } else {
         lent
     }
-}
-
-// What was read: whether there is a call, the call, and how many bytes of the two memories belong to it.
-pub struct Fetched {
-    pub more: bool,
-    pub call: Call,
-    pub first: usize,
-    pub second: usize,
 }
 
 // A call that brings no bytes and no numbers.
@@ -83,8 +84,9 @@ fn bare(more: bool, what: u32) -> Fetched {
     }
 }
 
-fn no_more() -> Fetched {
-    bare(false, 0)
+// No more call: one that lends no memory and does nothing else.
+fn the_end() -> Fetched {
+    bare(false, 13)
 }
 
 // A drop of the front batch, as a capture would have it.
@@ -92,51 +94,51 @@ pub fn a_drop() -> Fetched {
     bare(true, 6)
 }
 
-// The next call of the capture on standard input, its bytes in the two memories.
-pub fn fetch(first: &mut [u8], second: &mut [u8]) -> Fetched {
+// The next call of the capture on standard input, its two runs in `bytes`, one behind the other.
+pub fn fetch(bytes: &mut [u8]) -> Fetched {
     let mut header = [0u8; 48];
     let got = io::read_full(STDIN_FILENO, &mut header);
     if got < 48 {
-        no_more()
+        the_end()
     } else {
-        fetch_parts(&header, first, second)
+        fetch_runs(&header, bytes)
     }
 }
 
-fn fetch_parts(header: &[u8], first: &mut [u8], second: &mut [u8]) -> Fetched
+// The runs behind a header; there is no more call where they do not fit.
+fn fetch_runs(header: &[u8], bytes: &mut [u8]) -> Fetched
     requires { ⌜ length (now header) ≡ 48 ⌝ }
 {
     let call = call_at(header);
-    let n = words::get32(header, 36) as usize;
-    let m = words::get32(header, 40) as usize;
-    if first.len() < n {
-        return no_more();
-    }
-    if second.len() < m {
-        return no_more();
-    }
-    read_front(first, n);
-    read_front(second, m);
-    Fetched {
-        more: true,
-        call,
-        first: n,
-        second: m,
+    let first = words::get32(header, 36) as usize;
+    let second = words::get32(header, 40) as usize;
+    if read_front(bytes, first + second) {
+        Fetched {
+            more: true,
+            call,
+            first,
+            second,
+        }
+    } else {
+        the_end()
     }
 }
 
-fn read_front(s: &mut [u8], n: usize) {
+// Reads n bytes to the front of a memory; answers whether it has room for them.
+fn read_front(s: &mut [u8], n: usize) -> bool {
     if n <= s.len() {
         io::read_full(STDIN_FILENO, &mut s[0..n]);
-        return;
+        return true;
     }
+    false
 }
 
-// Bytes written, and bytes with a number behind them.
+// Bytes written.
 pub fn write(text: &[u8]) {
     io::write_all(STDOUT_FILENO, text);
 }
 
+// Bytes, and a number behind them.
 pub fn say(text: &[u8], number: u32) {
     io::write_all(STDOUT_FILENO, text);
     io::print_decimal(STDOUT_FILENO, number as u64);

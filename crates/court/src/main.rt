@@ -6,6 +6,6 @@ fn main() {
     let mut slots = io::large_buffer();
     let mut pool = io::large_buffer();
     let mut books = io::large_buffer();
-    let mut second = io::large_buffer();
-    player::play(Job::Table, &mut slots, &mut pool, &mut books, &mut second);
+    let mut bytes = io::large_buffer();
+    player::play(Job::Table, &mut slots, &mut pool, &mut books, &mut bytes);
 }

@@ -16,6 +16,6 @@ fn main() {
     let mut slots = new_memory();
     let mut pool = new_memory();
     let mut books = new_books();
-    let mut second = new_memory();
-    player::play(Job::Telling, &mut slots, &mut pool, &mut books, &mut second);
+    let mut bytes = new_memory();
+    player::play(Job::Telling, &mut slots, &mut pool, &mut books, &mut bytes);
 }

@@ -2,6 +2,7 @@
 mod calls;
 mod shown;
 
+ghost use Prim.Native.Nat.{_<_};
 use answers::part;
 use capture::Call;
 use capture::Fetched;
@@ -13,53 +14,43 @@ pub enum Job {
     Telling,
 }
 
-// Plays the capture on memories at least as long as it asks for, with room for the second run of a call.
-pub fn play(job: Job, slots: &mut [u8], pool: &mut [u8], books: &mut [u8], second: &mut [u8]) {
+// Plays the capture on memories at least as long as it asks for, with room for the bytes of a call: call after call, until there is none. At
+// most a million, the drops of a table among them.
+pub fn play(job: Job, slots: &mut [u8], pool: &mut [u8], books: &mut [u8], bytes: &mut [u8]) {
     let mut state = [0u8; codes::STATE_BYTES];
-    let mut first = [0u8; 1024];
-    play_calls(job, &mut state, slots, pool, books, &mut first, second);
-}
-
-// Call after call, until there is none: at most a million, the drops of a table among them.
-fn play_calls(
-    job: Job,
-    state: &mut [u8],
-    slots: &mut [u8],
-    pool: &mut [u8],
-    books: &mut [u8],
-    first: &mut [u8],
-    second: &mut [u8],
-) {
     let mut lent = Lent {
         slots: 0,
         pool: 0,
         books: 0,
     };
-    let mut turns: u32 = 0;
-    while turns < 1000000 {
-        let f = next_call(job, state, first, second);
-        if f.more {
-            let call = f.call;
-            lent = capture::lent_after(lent, call);
-            one_call(job, state, slots, pool, books, first, second, f, lent);
-        } else {
-            return;
-        }
-        turns += 1;
+    let mut left: u32 = 1000000;
+    while 0 < left {
+        let f = next_call(job, &state, bytes);
+        lent = capture::lent_after(lent, f);
+        one_call(job, &mut state, slots, pool, books, bytes, f, lent);
+        left = turns_left(left, f.more);
     }
 }
 
+// One turn less, or none where there is no more call.
+fn turns_left(left: u32, more: bool) -> u32
+    requires { ⌜ 0 < left ⌝ }
+    ensures { λ r. ⌜ r < left ⌝ }
+{
+    if more { left - 1 } else { 0 }
+}
+
 // The next call to make: of a table's, a drop wherever a batch is complete; else the next of the capture.
-fn next_call(job: Job, state: &[u8], first: &mut [u8], second: &mut [u8]) -> Fetched {
+fn next_call(job: Job, state: &[u8], bytes: &mut [u8]) -> Fetched {
     match job {
         Job::Table => {
             if calls::completed(state) == 0 {
-                heard(capture::fetch(first, second))
+                heard(capture::fetch(bytes))
             } else {
                 capture::a_drop()
             }
         }
-        Job::Telling => capture::fetch(first, second),
+        Job::Telling => capture::fetch(bytes),
     }
 }
 
@@ -84,19 +75,18 @@ fn one_call(
     slots: &mut [u8],
     pool: &mut [u8],
     books: &mut [u8],
-    first: &[u8],
-    second: &[u8],
+    bytes: &[u8],
     f: Fetched,
     lent: Lent,
 ) {
     let x = f.call;
-    let brought = part(second, 0, f.second);
+    let second = part(bytes, f.first, f.second);
     let s = front(slots, lent.slots);
     let p = front(pool, lent.pool);
     let k = front(books, lent.books);
     shown::look(job, state, s, p, k, x);
-    let answer = calls::make(state, s, p, k, part(first, 0, f.first), brought, x);
-    tell(job, x, brought, answer, state);
+    let answer = calls::make(state, s, p, k, part(bytes, 0, f.first), second, x);
+    tell(job, x, second, answer, state);
 }
 
 // The first n bytes of a memory, or all where there are fewer.
