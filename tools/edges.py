@@ -46,7 +46,7 @@ def cuts(x):
     x.limit()
     x.note('-- 0 rows: done before any batch check; 0 columns: rows are counted, none can be read')
     x.push_raw(0, b'?', b'')
-    x.set_up(t=2, kinds=())
+    x.set_up(t=2, r=4, kinds=())
     x.push(3)
     x.row(0, 0)
     x.drop()

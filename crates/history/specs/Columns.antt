@@ -14,6 +14,7 @@ use Rattle.invariant.specs.RowLaws.{length-upTo}
 use Rattle.history.specs.Call.{Call, push, finish, drop, register, letGo, limit, read, step, run}
 use Rattle.history.specs.History.{did}
 
+-- as many columns, each of the same kind
 record Columns (s t : BatchCoalescer) : Type 0 where
   pub columns : t .columns ≡ s .columns
   pub kind : (c : ℕ) → columnOf t c .kind ≡ columnOf s c .kind

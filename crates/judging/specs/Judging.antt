@@ -14,6 +14,7 @@ use Rattle.rules.specs.Checks.{batchFault}
 use Rattle.rules.specs.Ranges.{tested}
 use Rattle.judging.specs.declared.Verdict.{Verdict}
 
+-- the first fault of a batch refuses it by its number; with none the push goes on
 abbrev pub ofFault : Option Fault → Verdict
 ofFault none = Verdict.Go
 ofFault (some f) = Verdict.Refused (f .number)

@@ -31,6 +31,7 @@ pub record Rowed (s : BatchCoalescer) (slots : List ℕ) (b : Batch) (c place : 
 abbrev pub rowsWhole : World → Batch → ℕ → World
 rowsWhole v b c = valuesCopied (bitsCopied v b c (filling v) 0 0 (b .rows)) b c (filling v) 0 0 (b .rows)
 
+-- the slots with those rows laid, whatever pool and books stand beside them
 pub record LaysRows (s : BatchCoalescer) (slots : List ℕ) (b : Batch) (c : ℕ) (slots′ : List ℕ) : Type 0 where
   pub is : (pool books : List ℕ) → rowsWhole (world s slots pool books) b c ≡ world s slots′ pool books
 
@@ -43,6 +44,7 @@ pub record Columned (s : BatchCoalescer) (slots books : List ℕ) (b : Batch) (c
   pub placed : place ≡ valuesPlace s (s .place) c
   pub room : listLength (world s [] [] books) (s .place) c + recordOf b c .count ≤ s .lists
 
+-- slots and books with column c laid. 01: "Queued whole: views unchanged, list listed as given"
 pub record LaysColumn (s : BatchCoalescer) (slots books : List ℕ) (b : Batch) (c : ℕ) (slots′ books′ : List ℕ) : Type 0 where
   pub is : (pool : List ℕ) → columnWhole (world s slots pool books) b c ≡ world s slots′ pool books′
 
@@ -62,8 +64,10 @@ pub record Wholly (s : BatchCoalescer) (slots books : List ℕ) (b : Batch) : Ty
 pub record LaysColumns (s : BatchCoalescer) (slots books : List ℕ) (b : Batch) (c : ℕ) (slots′ books′ : List ℕ) : Type 0 where
   pub is : (pool : List ℕ) → each c (λ v i. columnWhole v b i) (world s slots pool books) ≡ world s slots′ pool books′
 
+-- 01, step 2: "queue the batch whole"
 pub record QueuesWhole (s : BatchCoalescer) (slots books : List ℕ) (b : Batch) (q : Step) (slots′ books′ : List ℕ) : Type 0 where
   pub steps : (pool : List ℕ) → Steps (queuedWhole (world s slots pool books) b) q slots′ pool books′
 
+-- 01, step 2: "finish the buffered rows, then queue it whole"
 pub record QueuesFirst (s : BatchCoalescer) (slots books : List ℕ) (b : Batch) (q : Step) (slots′ books′ : List ℕ) : Type 0 where
   pub steps : (pool : List ℕ) → Steps (bind (finished (world s slots pool books)) (λ v. queuedWhole v b)) q slots′ pool books′

@@ -48,6 +48,7 @@ unfoldable pub marksOfCell : Cell → List ℕ
 marksOfCell null = 256 ∷ []
 marksOfCell (value bs) = bs
 
+-- the cells of a row, and the rows, one behind another
 unfoldable pub marksOfRow : Row → List ℕ
 marksOfRow [] = []
 marksOfRow (c ∷ cs) = marksOfCell c ++ marksOfRow cs
