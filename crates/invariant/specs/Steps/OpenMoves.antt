@@ -32,7 +32,7 @@ use Rattle.tallies.specs.TallyLaws.{framed-tally}
 use Rattle.room.specs.declared.Room.{Room}
 use Rattle.room.specs.declared.Chosen.{Chosen}
 use Rattle.room.specs.Room.{chosen, entryAt, takenFor, openedAs, opened}
-use Rattle.room.specs.RoomLaws.{Found-room, room-says}
+use Rattle.room.specs.RoomLaws.{Found-room, room-says, sound-block}
 use Rattle.state.specs.declared.Column.{Column}
 use Rattle.state.specs.declared.OpenBlock.{OpenBlock}
 use Rattle.state.specs.World.{World, columnOf}
@@ -84,11 +84,13 @@ module _ (w : World) (c min : ℕ) where
     found : Found-room (w .books) (w .state .numbers) (length (w .pool)) size room
     is : v ≡ openedWith room
 
-  anew : Holds Anew (Among (10 ∷ 11 ∷ 12 ∷ [])) (blockOpened w c min)
+  -- the entry of a free number is zero, so that 14 is not met
+  anew : {p : ℕ} {count : ℕ → ℕ} → Sound (w .books) (w .state .numbers) p count → Holds Anew (Among (10 ∷ 11 ∷ 12 ∷ [])) (blockOpened w c min)
   unfolding blockOpened opened openedAs
-  anew =
+  anew r =
       holds-cond (leb (listLength w (filling w) c + 1) (w .state .lists))
-      (λ l. holds-among (10 ∷ 11 ∷ 12 ∷ []) tt (go (chosen (w .books) (w .state .numbers) (length (w .pool)) size) refl))
+      (λ l. holds-among {ms = 11 ∷ 12 ∷ []} (10 ∷ 11 ∷ 12 ∷ []) tt
+      (rw (sound-block (w .books) (w .state .numbers) (length (w .pool)) size r) (go (chosen (w .books) (w .state .numbers) (length (w .pool)) size) refl)))
       (λ l. refused (one-of (10 ∷ 11 ∷ 12 ∷ []) 10 tt))
     where
       go : (x : Chosen) → chosen (w .books) (w .state .numbers) (length (w .pool)) size ≡ x → Holds Anew (Among (11 ∷ 12 ∷ [])) (opening w c min (takenFor (w .books) size 0 1 x))
@@ -236,8 +238,8 @@ pub record NewBlock (w : World) (ext : ℕ → ℕ) (c min : ℕ) (v : World) : 
 
 pub opened-moves : {w : World} {ext : ℕ → ℕ} (c min : ℕ) → Holding w ext → c < w .state .columns → isViews (w .state) c ≡ true → isOpen w c ≡ false → Holds (NewBlock w ext c min) (Among (10 ∷ 11 ∷ 12 ∷ [])) (blockOpened w c min)
 opened-moves {w} {ext} c min a q y o =
-    holds-more (holds-both (opened-anew w c min (a .run) q y) (holds-both (anew w c min) (opened-holds w c min)))
-    (λ v p. fresh v (p .0) (p .1 .0) (p .1 .1))
+    holds-more (holds-both (anew w c min (a .sound)) (holds-both (opened-anew w c min (a .run) q y) (opened-holds w c min)))
+    (λ v p. fresh v (p .1 .0) (p .0) (p .1 .1))
     (λ n m. m)
   where
     fresh : (v : World) → Opened w c min v → Anew w c min v → Beside w v → NewBlock w ext c min v
