@@ -4,6 +4,8 @@ pub mod Law
 pub mod CallLaws
 pub mod History
 pub mod Corollaries
+pub mod Stray
+pub mod StrayLaws
 pub mod Counts
 pub mod Reads
 pub mod Cells
