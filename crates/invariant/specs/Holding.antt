@@ -4,7 +4,7 @@ use mathlib.Core.Path.{_≡_}
 use mathlib.Core.Logic.{_≢_}
 use mathlib.Core.Bool.{true, false, cond}
 use mathlib.Core.List.{List}
-use lib.ListN.{length}
+use lib.ListN.{length, getD}
 use lib.Dec.{ltb, eqb}
 use Rattle.words.specs.Run.{read}
 use Rattle.views.specs.View.{viewOf, isValid}
@@ -53,6 +53,10 @@ pub record HasOpen (s : BatchCoalescer) (c k : ℕ) : Type 0 where
 pub record Alone (s : BatchCoalescer) : Type 0 where
   pub alone : (c d k : ℕ) → HasOpen s c k → HasOpen s d k → c ≡ d
 
+-- the caller holds none of them. 01: "A block opened by the port has no caller's hold."
+pub record Unheld (s : BatchCoalescer) (books : List ℕ) : Type 0 where
+  pub unheld : (c k : ℕ) → HasOpen s c k → entryOf books k .hold ≡ 0
+
 -- ---- the rows of a slot
 
 -- the slot of a queued batch
@@ -76,9 +80,10 @@ pub record Holding (w : World) (ext : ℕ → ℕ) : Type 0 where
   pub listed : (slot c i : ℕ) → slot ≤ w .state .queue → c < w .state .columns → i < listLength w slot c → listedAt w slot c i < w .state .numbers
   -- a column of views keeps a block size that is 4,096 doubled
   pub sizes : (c : ℕ) → c < w .state .columns → isViews (w .state) c ≡ true → Power (columnOf (w .state) c .source .current .0)
-  -- a state has 16 columns, those that set-up did not ask for behind the others; and no two have the same block open
+  -- a state has 16 columns, those that set-up did not ask for behind the others; no two have the same block open, and the caller holds none that is
   pub sixteen : length (w .state .column) ≡ 16
   pub alone : Alone (w .state)
+  pub unheld : Unheld (w .state) (w .books)
   -- a slot that is not queued counts no rows, and one that is not being filled either lists nothing
   pub uncounted : (slot : ℕ) → slot ≤ w .state .queue → (Queued w slot → ⊥) → rowsIn w slot ≡ 0
   pub unlisted : (slot c : ℕ) → slot ≤ w .state .queue → slot ≢ w .state .place → (Queued w slot → ⊥) → c < w .state .columns → listLength w slot c ≡ 0
@@ -108,3 +113,31 @@ pub record Begins (a b : List ℕ) : Type 0 where
 pub record Stands (w v : World) (k : ℕ) : Type 0 where
   pub live : isFree (entryOf (v .books) k) ≡ false
   pub begins : Begins (filledBytes (w .books) (w .pool) k) (filledBytes (v .books) (v .pool) k)
+
+-- byte x of the pool is number k's: it lies within its capacity, and in an open block within what is filled
+pub record Owns (w : World) (k x : ℕ) : Type 0 where
+  pub from : entryOf (w .books) k .start ≤ x
+  pub below : x < entryOf (w .books) k .start + entryOf (w .books) k .capacity .0
+  pub filled : (c : ℕ) → HasOpen (w .state) c k → x < entryOf (w .books) k .start + entryOf (w .books) k .length .0
+
+-- number k lies in the later world where it lay, is held as it was, and has its bytes; only an open block is filled further, and none is opened again
+pub record Lies (w v : World) (k : ℕ) : Type 0 where
+  pub start : entryOf (v .books) k .start ≡ entryOf (w .books) k .start
+  pub capacity : entryOf (v .books) k .capacity .0 ≡ entryOf (w .books) k .capacity .0
+  pub hold : entryOf (v .books) k .hold ≡ entryOf (w .books) k .hold
+  pub longer : entryOf (w .books) k .length .0 ≤ entryOf (v .books) k .length .0
+  pub filled : ((c : ℕ) → HasOpen (w .state) c k → ⊥) → entryOf (v .books) k .length .0 ≡ entryOf (w .books) k .length .0
+  pub was-open : (c : ℕ) → HasOpen (v .state) c k → HasOpen (w .state) c k
+  pub bytes : (x : ℕ) → Owns w k x → getD (v .pool) x 0 ≡ getD (w .pool) x 0
+
+-- no buffer fills byte x of the pool
+pub record Unfilled (w : World) (x : ℕ) : Type 0 where
+  pub unfilled : (k : ℕ) → k < w .state .numbers → isFree (entryOf (w .books) k) ≡ false → entryOf (w .books) k .start ≤ x → x < entryOf (w .books) k .start + entryOf (w .books) k .length .0 → ⊥
+
+-- every live number lies where it lay, and a byte that no buffer fills then is as it was. 01: "Pool bytes change only where bytes are registered or
+-- copied"
+pub record PoolStays (w v : World) : Type 0 where
+  pub numbers : v .state .numbers ≡ w .state .numbers
+  pub live : (k : ℕ) → k < w .state .numbers → isFree (entryOf (w .books) k) ≡ false → isFree (entryOf (v .books) k) ≡ false
+  pub lies : (k : ℕ) → k < w .state .numbers → isFree (entryOf (w .books) k) ≡ false → Lies w v k
+  pub only : (x : ℕ) → Unfilled v x → getD (v .pool) x 0 ≡ getD (w .pool) x 0

@@ -34,6 +34,7 @@ use Rattle.invariant.specs.Holding.{reach, numberAt, listings, rowsAt, H
 use Rattle.invariant.specs.BeginLaws.{begins-refl}
 use Rattle.invariant.specs.Rests.{Rests, Lists}
 use Rattle.invariant.specs.CountLaws.{times-same, listings-same}
+use Rattle.invariant.specs.PoolLaws.{relisted-is, books-stay}
 use Rattle.invariant.specs.Steps.MoveLaws.{Remains, remains-moves, live-stands}
 use Rattle.invariant.specs.Steps.Moves.{Moves}
 
@@ -118,10 +119,11 @@ module _ {w : World} {ext : ℕ → ℕ} (x : List ℕ) (a : Holding w ext) (wor
         sizes = a .sizes;
         sixteen = a .sixteen;
         alone = a .alone;
+        unheld = a .unheld;
         rows = λ slot p. slots-rows w x slot;
         unlisted = λ slot c p d q. slots-length w x slot c;
       }
 
   pub slots-moves : length x ≡ length (w .slots) → (Bytes (w .slots) → Bytes x) → ((slot c i : ℕ) → slot ≤ w .state .queue → c < w .state .columns → i < rowsAt w ext slot c → Rests w (inSlots w x) slot c i) → Moves w ext (inSlots w x) ext
   slots-moves len bytes rests =
-      remains-moves a (slots-goes refl len refl refl (a .run)) (beside-state w (inSlots w x) refl len refl refl) (slots-remain rests) bytes stands-here
+      remains-moves a (slots-goes refl len refl refl (a .run)) (beside-state w (inSlots w x) refl len refl refl) (slots-remain rests) bytes stands-here (books-stay w (inSlots w x) refl refl (λ k l h. h) (λ k l h. relisted-is refl) (λ c k h o. o))

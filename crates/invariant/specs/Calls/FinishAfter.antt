@@ -19,6 +19,7 @@ use Rattle.push_safety.specs.TestedLaws.{bounds-say}
 use Rattle.push_safety.specs.Firm.{goes-refl}
 use Rattle.push_safety.specs.FinishGoes.{Shut, all-closed-shut}
 use Rattle.invariant.specs.Holding.{Holding, Between}
+use Rattle.invariant.specs.PoolLaws.{pool-refl}
 use Rattle.invariant.specs.Steps.Moves.{Moves}
 use Rattle.invariant.specs.Steps.MoveLaws.{moves-refl, moves-trans, stands-refl, rows-filling}
 use Rattle.invariant.specs.Steps.CloseMoves.{closed-moves}
@@ -59,7 +60,7 @@ moves-rows {w} {v} a m =
     ∙ sym (rows-are w)
 
 pub moves-along : {w v : World} {ext ext′ : ℕ → ℕ} → Moves w ext v ext′ → LaterInPush w v
-moves-along m = record { set-up = m .beside .set-up; goes = m .goes; bytes = m .bytes; stands = m .stands }
+moves-along m = record { set-up = m .beside .set-up; goes = m .goes; bytes = m .bytes; stands = m .stands; pool = m .pool }
 
 -- ---- finishing
 
@@ -98,7 +99,7 @@ finished-after w a h z =
     (λ e. let n : w .state .buffered .0 ≡ 0 = eqb-true (w .state .buffered .0) 0 e in held
     (record {
       between = z n;
-      along = record { set-up = same-refl (w .state); goes = goes-refl (a .run); bytes = λ x. x; stands = λ k l f. stands-refl w k f };
+      along = record { set-up = same-refl (w .state); goes = goes-refl (a .run); bytes = λ x. x; stands = λ k l f. stands-refl w k f; pool = pool-refl w };
       after = after-same refl refl;
       none = n;
     }))

@@ -14,7 +14,8 @@ use Rattle.rules.specs.Views.{openNumber}
 use Rattle.push_safety.specs.Run.{Run}
 use Rattle.invariant.specs.Holding.{reach, numberAt, listings, Queued, rowsAt, Holding, Between}
 use Rattle.invariant.specs.CountLaws.{times-same, listings-same}
-use Rattle.invariant.specs.AloneLaws.{alone-columns}
+use Rattle.invariant.specs.AloneLaws.{columns-open, alone-columns}
+use Rattle.invariant.specs.PoolLaws.{unheld-on}
 use Rattle.invariant.specs.RowLaws.{rows-read, batches-read}
 use Rattle.invariant.specs.Calls.MemoryAfter.{SameRows}
 
@@ -125,6 +126,7 @@ module _ (w : World) (l : Limit) where
         sizes = a .sizes;
         sixteen = a .sixteen;
         alone = alone-columns (w .state) (v .state) refl (λ c. refl) (a .alone);
+        unheld = unheld-on a (v .state) (w .books) (columns-open (w .state) (v .state) refl (λ c. refl)) (λ k l h z. z);
         uncounted = λ slot p n. a .uncounted slot p (λ z. n (queued-on slot z));
         unlisted = λ slot c p d n q. a .unlisted slot c p d (λ z. n (queued-on slot z)) q;
         some = λ slot z. a .some slot (queued slot z);

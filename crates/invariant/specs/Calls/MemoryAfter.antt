@@ -16,7 +16,7 @@ use Rattle.words.specs.FrameLaws.{framed-wider, put-framed}
 use Rattle.books.specs.declared.Entry.{Entry}
 use Rattle.books.specs.Entry.{entryOf, isFree}
 use Rattle.books.specs.EntryLaws.{EntryWords}
-use Rattle.listings.specs.Listing.{taken, released}
+use Rattle.listings.specs.Listing.{noEntry, taken, released}
 use Rattle.sound.specs.Sound.{Sound, countWith}
 use Rattle.sound.specs.Change.{Changed, holdAs, orFree}
 use Rattle.sound.specs.Live.{live-is}
@@ -41,10 +41,11 @@ use Rattle.rules.specs.Stays.{same-refl}
 use Rattle.push_safety.specs.Run.{Run}
 use Rattle.push_safety.specs.TestedLaws.{bounds-say}
 use Rattle.push_safety.specs.BooksGo.{held-says}
-use Rattle.invariant.specs.Holding.{reach, numberAt, listings, Holding, Between, Stands}
+use Rattle.invariant.specs.Holding.{reach, numberAt, listings, Unheld, Holding, Between, Stands}
 use Rattle.invariant.specs.BeginLaws.{begins-is}
 use Rattle.invariant.specs.Rests.{reach-open, number-open}
 use Rattle.invariant.specs.CountLaws.{listed-counted, number-below, number-live}
+use Rattle.invariant.specs.PoolLaws.{unheld-on}
 use Rattle.invariant.specs.Steps.MoveLaws.{SameSlots, Remains, remains-shows, remains-holding, rows-filling}
 use Rattle.invariant.specs.RowLaws.{rows-read}
 use Rattle.invariant.specs.Calls.After.{queued-read, rows-are}
@@ -77,7 +78,7 @@ same-self g = record { between = g; batches = refl; rows = refl; bytes = λ z. z
 
 -- ---- another pool and other books
 
-module _ {w : World} (g : Between w) (pool books : List ℕ) (f : Framed 0 (4 + 20 * w .state .numbers) (w .books) books) (len : length pool ≡ length (w .pool)) (s : Sound books (w .state .numbers) (w .state .pool .0) (listings w)) (stands : (slot c j : ℕ) → slot ≤ w .state .queue → c < w .state .columns → j < reach w slot c → Stands w (inMemory w pool books) (numberAt w slot c j)) where
+module _ {w : World} (g : Between w) (pool books : List ℕ) (f : Framed 0 (4 + 20 * w .state .numbers) (w .books) books) (len : length pool ≡ length (w .pool)) (s : Sound books (w .state .numbers) (w .state .pool .0) (listings w)) (stands : (slot c j : ℕ) → slot ≤ w .state .queue → c < w .state .columns → j < reach w slot c → Stands w (inMemory w pool books) (numberAt w slot c j)) (unheld : Unheld (w .state) books) where
   abbrev v : World
   v = inMemory w pool books
 
@@ -119,7 +120,7 @@ module _ {w : World} (g : Between w) (pool books : List ℕ) (f : Framed 0 (4 + 
   alike = record { set-up = same-refl (w .state); place = refl; queued = refl; slots = refl }
 
   remains : Remains w (λ c. w .state .buffered .0) v
-  remains = memory-remains w pool books f a s stands
+  remains = memory-remains w pool books f a s stands unheld
 
   pub memory-same : SameRows w v
   memory-same =
@@ -155,10 +156,26 @@ module _ {w : World} (g : Between w) (i : ℕ) (h : isHeld (w .books) i ≡ true
           let f : isFree (entryOf (released (w .books) i) i) ≡ false = released-live i (g .holding .sound) below m in
           rw d (record { live = f; begins = begins-is (released-filled-same (w .pool) i (g .holding .sound) below f) })
 
+  let-go-hold : (e : Entry) → orFree (holdAs e 0) .hold ≡ 0
+  unfolding orFree
+  let-go-hold e = by-free (isFree (holdAs e 0))
+    where
+      by-free : (b : Bool) → cond b noEntry (holdAs e 0) .hold ≡ 0
+      by-free true = refl
+      by-free false = refl
+
+  unheld-here : Unheld (w .state) (released (w .books) i)
+  unheld-here = unheld-on (g .holding) (w .state) (released (w .books) i) (λ c k o. o) (λ k l n z. go k z (ℕ-discrete k i))
+    where
+      go : (k : ℕ) → entryOf (w .books) k .hold ≡ 0 → Dec (k ≡ i) → entryOf (released (w .books) i) k .hold ≡ 0
+      go k z (yes d) = rw d (ap (λ (e : Entry). e .hold) (changed .same) ∙ let-go-hold (entryOf (w .books) i))
+      go k z (no d) = ap (λ (e : Entry). e .hold) (changed .other k d) ∙ z
+
   pub released-same : SameRows w (inBooks w (released (w .books) i))
   released-same =
       memory-same g (w .pool) (released (w .books) i) (changed .framed) refl (released-sound i (g .holding .sound) below) (λ slot c j p q l.
       listed-stands (numberAt w slot c j) (number-below (g .holding) slot c j p q l) (listed-counted w slot c j p q l) (number-live (g .holding) slot c j p q l))
+      unheld-here
 
 pub let-go-same : {w : World} → Between w → (i : ℕ) → SameRows w (inBooks w (letGo (w .books) i .books))
 unfolding letGo
@@ -213,6 +230,11 @@ module _ {w : World} (g : Between w) (bytes : List ℕ) (capacity : ℕ) (l : le
       count j (yes z) = rw z (count-same (listings w) k 0 ∙ sym (free-uncounted k sound (f .number .below) (f .number .accepted)))
       count j (no z) = count-other (listings w) k 0 j z
 
+  -- a number that was live is another
+  other-live : (j : ℕ) → isFree (entryOf (w .books) j) ≡ false → j ≢ k
+  other-live j h z =
+      true≢false (sym no-free ∙ ap isFree (sym (free-entry k sound (f .number .below) (f .number .accepted))) ∙ ap (λ (x : ℕ). isFree (entryOf (w .books) x)) (sym z) ∙ h)
+
   live-stands : (j : ℕ) → j < w .state .numbers → isFree (entryOf (w .books) j) ≡ false → Stands w (inMemory w pool′ books′) j
   live-stands j m h =
       record {
@@ -221,12 +243,16 @@ module _ {w : World} (g : Between w) (bytes : List ℕ) (capacity : ℕ) (l : le
       }
     where
       other : j ≢ k
-      other z = true≢false (sym no-free ∙ ap isFree (sym (free-entry k sound (f .number .below) (f .number .accepted))) ∙ ap (λ (x : ℕ). isFree (entryOf (w .books) x)) (sym z) ∙ h)
+      other = other-live j h
+
+  unheld-taken : Unheld (w .state) books′
+  unheld-taken = unheld-on (g .holding) (w .state) books′ (λ c j o. o) (λ j m h z. ap (λ (x : Entry). x .hold) (new .other j (other-live j h)) ∙ z)
 
   pub taken-same : SameRows w (inMemory w pool′ books′)
   taken-same =
       memory-same g pool′ books′ (new .framed) (written .len) kept (λ slot c j p q h.
       live-stands (numberAt w slot c j) (number-below (g .holding) slot c j p q h) (number-live (g .holding) slot c j p q h))
+      unheld-taken
 
 pub register-same : {w : World} → Between w → (bytes : List ℕ) (capacity : ℕ) → SameRows w (inMemory w (registered (w .books) (w .pool) (w .state .numbers) bytes capacity .pool) (registered (w .books) (w .pool) (w .state .numbers) bytes capacity .books))
 unfolding registered

@@ -13,6 +13,7 @@ use Rattle.views.specs.View.{viewOf, isValid}
 use Rattle.books.specs.Entry.{entryOf, isFree}
 use Rattle.sound.specs.Sound.{Sound}
 use Rattle.sound.specs.SoundLaws.{sound-recount}
+use Rattle.sound.specs.ListKept.{Relisted}
 use Rattle.tallies.specs.TallyLaws.{entry-withTally}
 use Rattle.state.specs.World.{World, columnOf}
 use Rattle.state.specs.Layout.{isViews, cellPlace, tally, listLength, rowsIn, nextSlot, queuedSlot}
@@ -25,11 +26,12 @@ use Rattle.rules.specs.SameLaws.{same-views, same-list-place}
 use Rattle.push_safety.specs.Run.{Goes}
 use Rattle.push_safety.specs.TestedLaws.{bounds-say}
 use Rattle.push_safety.specs.FinishGoes.{Shut, queueing-goes}
-use Rattle.invariant.specs.Holding.{reach, numberAt, listings, Alone, Queued, rowsAt, Holding, Stands}
+use Rattle.invariant.specs.Holding.{reach, numberAt, listings, HasOpen, Alone, Unheld, Queued, rowsAt, Holding, Stands, PoolStays}
 use Rattle.invariant.specs.BeginLaws.{begins-is}
 use Rattle.invariant.specs.Rests.{Lists, Shows, reach-plain, reach-shut, number-listed, rests-shows}
 use Rattle.invariant.specs.CountLaws.{times-same, listings-same, number-below, number-live}
-use Rattle.invariant.specs.AloneLaws.{alone-counts}
+use Rattle.invariant.specs.AloneLaws.{counts-open, alone-counts}
+use Rattle.invariant.specs.PoolLaws.{relisted-is, relisted-hold, books-stay, unheld-on}
 use Rattle.invariant.specs.Steps.MoveLaws.{sound-at, rows-filling, rows-other}
 use Rattle.invariant.specs.Steps.TallyMoves.{tally-sound, tally-filled, counting-rows, counting-length, counting-rows-here}
 use Rattle.invariant.specs.RowLaws.{rows-read, upTo-ext}
@@ -170,6 +172,24 @@ module _ {w : World} (rows : ℕ) (a : Holding w (λ c. rows)) (s : Shut w) (roo
         begins = begins-is (tally-filled (w .books) (w .pool) (tally (w .state) place 0) rows k l);
       }
 
+  open-was : (c k : ℕ) → HasOpen (v .state) c k → HasOpen (w .state) c k
+  unfolding queueing counting
+  open-was = counts-open (w .state) (nextSlot (w .state) place) (w .state .queued + 1) 0
+
+  relisted : (k : ℕ) → k < w .state .numbers → Relisted (entryOf (w .books) k) (entryOf (v .books) k)
+  unfolding queueing counting
+  relisted k l = relisted-is (entry-withTally (w .books) (tally (w .state) place 0) rows k l)
+
+  unheld-here : Unheld (v .state) (v .books)
+  unheld-here = unheld-on a (v .state) (v .books) open-was (λ k l h z. relisted-hold (relisted k l) z)
+
+  pool-are : v .pool ≡ w .pool
+  unfolding queueing counting
+  pool-are = refl
+
+  pool-here : PoolStays w v
+  pool-here = books-stay w v (same .numbers) pool-are (λ k l h. stands k l h .live) (λ k l h. relisted k l) (λ c k h o. open-was c k o)
+
   sound : Sound (v .books) (w .state .numbers) (w .state .pool .0) (listings w)
   unfolding queueing counting
   sound = tally-sound (tally (w .state) place 0) rows (a .sound) small
@@ -216,6 +236,7 @@ module _ {w : World} (rows : ℕ) (a : Holding w (λ c. rows)) (s : Shut w) (roo
         sizes = λ c q y. sizes c (omega (arith, same .columns)) (sym (same-views same c) ∙ y);
         sixteen = sixteen-here;
         alone = alone-here;
+        unheld = unheld-here;
         uncounted = λ slot p n. rows-there slot (λ e. n (rw e queued-place-now)) ∙ a .uncounted slot (omega (arith, same .queue)) (λ z. n (queued-on slot z));
         unlisted = λ slot c p d n q.
             let q′ : c < w .state .columns = omega (arith, same .columns) in
@@ -273,4 +294,4 @@ module _ {w : World} (rows : ℕ) (a : Holding w (λ c. rows)) (s : Shut w) (roo
   queue-rows = ap (λ (n : ℕ). slotRows v (v .state .place) n) queue-none
 
   pub queue-along : LaterInPush w v
-  queue-along = record { set-up = same; goes = goes; bytes = λ z. rw slots-are z; stands = stands }
+  queue-along = record { set-up = same; goes = goes; bytes = λ z. rw slots-are z; stands = stands; pool = pool-here }

@@ -179,6 +179,7 @@ module _ (a : Wanted) (slots pool books : List ℕ) (ok : fitsSetUp (record { st
         sizes = λ c q y. sizes c q;
         sixteen = new-sixteen a;
         alone = record { alone = λ c d k p r. absurd (not-open (record { 0 = k }) (sym (column c (p .column) .1) ∙ p .block)) };
+        unheld = record { unheld = λ c k p. absurd (not-open (record { 0 = k }) (sym (column c (p .column) .1) ∙ p .block)) };
         uncounted = λ slot p n. rows slot;
         unlisted = λ slot c p d n q. lengths slot c;
         some = λ slot z. absurd (omega (arith, z .below, none-queued));

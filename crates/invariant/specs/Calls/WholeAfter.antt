@@ -24,7 +24,8 @@ use Rattle.rules.specs.Stays.{Beside}
 use Rattle.push_safety.specs.Firm.{run-firm}
 use Rattle.push_safety.specs.FinishGoes.{Shut}
 use Rattle.push_safety.specs.WholeGoes.{columns-whole-state}
-use Rattle.invariant.specs.Holding.{reach, Holding, Between}
+use Rattle.invariant.specs.Holding.{reach, Holding, Between, PoolStays}
+use Rattle.invariant.specs.PoolLaws.{pool-trans}
 use Rattle.invariant.specs.Steps.Moves.{Moves, ReadableBatch}
 use Rattle.invariant.specs.Steps.MoveLaws.{moves-refl, moves-trans, sourced-on, batch-on, rows-filling}
 use Rattle.invariant.specs.Steps.CopyMoves.{bits-moves, bits-laid}
@@ -147,6 +148,7 @@ pub record Whole (w : World) (b : Batch) (v : World) : Type 0 where
   pub between : Between v
   pub after : After w (batchRows w b) v
   pub bytes : Bytes (w .slots) → Bytes (v .slots)
+  pub pool : PoolStays w v
 
 pub whole-after : (w : World) (b : Batch) → Between w → w .state .buffered .0 ≡ 0 → ReadableBatch w b → 1 ≤ b .rows → Holds (Whole w b) (Among (9 ∷ 10 ∷ [])) (queuedWhole w b)
 unfolding queuedWhole
@@ -166,6 +168,7 @@ whole-after w b g z x some =
           between = queued-between (b .rows) hold shut l′ some most;
           after = queued-after (b .rows) (batchRows w b) hold shut l′ some most (moves-batches a (p .moves)) rows;
           bytes = λ x. queue-along (b .rows) hold shut l′ some most .bytes (p .moves .bytes x);
+          pool = pool-trans (p .moves .pool) (queue-along (b .rows) hold shut l′ some most .pool);
         }
       where
         fits : (c : ℕ) → c < w .state .columns → listLength w (filling w) c + recordOf b c .count ≤ w .state .lists

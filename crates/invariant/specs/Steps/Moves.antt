@@ -14,7 +14,7 @@ use Rattle.rules.specs.Batch.{Batch, recordOf, rowBit, rowView, listedBytes, ba
 use Rattle.rules.specs.Views.{filling}
 use Rattle.rules.specs.Stays.{Beside}
 use Rattle.push_safety.specs.Run.{Readable, Goes}
-use Rattle.invariant.specs.Holding.{rowsAt, Holding, Stands}
+use Rattle.invariant.specs.Holding.{rowsAt, Holding, Stands, PoolStays}
 
 -- n rows more in column c
 unfoldable pub more : (ℕ → ℕ) → ℕ → ℕ → ℕ → ℕ
@@ -30,6 +30,7 @@ pub record Moves (w : World) (ext : ℕ → ℕ) (v : World) (ext′ : ℕ → �
   pub cells : (slot c i : ℕ) → slot ≤ w .state .queue → c < w .state .columns → i < rowsAt w ext slot c → slotCell v slot c i ≡ slotCell w slot c i
   pub bytes : Bytes (w .slots) → Bytes (v .slots)
   pub stands : (k : ℕ) → k < w .state .numbers → isFree (entryOf (w .books) k) ≡ false → Stands w v k
+  pub pool : PoolStays w v
 
 -- and no bit changes, of rows or behind them
 pub record BitsStill (w v : World) : Type 0 where

@@ -37,6 +37,7 @@ holding-ext {w} {ext} ext′ e a =
       sizes = a .sizes;
       sixteen = a .sixteen;
       alone = a .alone;
+      unheld = a .unheld;
       uncounted = a .uncounted;
       unlisted = a .unlisted;
       some = a .some;

@@ -27,7 +27,7 @@ pub record Stored (w v : World) (b : Batch) (c i j : ℕ) : Type 0 where
 -- the same rows, of a world whose holding is known with more of them
 pub moves-more : {w v : World} {ext ext′ ext″ : ℕ → ℕ} → Moves w ext v ext′ → ((c : ℕ) → ext c ≤ ext″ c) → Holding v ext″ → Moves w ext v ext″
 moves-more m g a =
-    record { holding = a; goes = m .goes; beside = m .beside; grows = g; rows = m .rows; cells = m .cells; bytes = m .bytes; stands = m .stands }
+    record { holding = a; goes = m .goes; beside = m .beside; grows = g; rows = m .rows; cells = m .cells; bytes = m .bytes; stands = m .stands; pool = m .pool }
 
 module _ {w v : World} {ext : ℕ → ℕ} (b : Batch) (c from n : ℕ) (m : Moves w ext v ext) (q : c < w .state .columns) (h : ext c + n ≤ w .state .rows .0) (l : Laid v b c (ext c) from n) (s : (j : ℕ) → j < n → Stored w v b c (from + j) (ext c + j)) where
   e : SameSetUp (w .state) (v .state)
