@@ -10,3 +10,4 @@ pub mod Cells
 pub mod Refusals
 pub mod Buffers
 pub mod Columns
+pub mod Pool
