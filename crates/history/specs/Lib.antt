@@ -11,3 +11,4 @@ pub mod Refusals
 pub mod Buffers
 pub mod Columns
 pub mod Pool
+pub mod Spare

@@ -118,7 +118,7 @@ step-held : (w : World) (c : Call) (k : ℕ) → Between w → isHeld (w .books)
 unfolding step
 step-held w (push b bytes) k g h n t = stays-held g k h t (push-pool w b g bytes)
 step-held w finish k g h n t =
-    rw (finish-steps w (between-tested g)) (finish-held k (finished w) g h (finished-after w (g .holding) (omega (arith, g .below)) (λ z. g)))
+    rw (finish-steps w (between-tested g)) (finish-held k (finished w) g h (finished-after w (g .holding) (omega (arith, g .below)) (λ z. g) (g .spared)))
 step-held w drop k g h n t = go (ℕ-discrete (w .state .queued) 0)
   where
     go : Dec (w .state .queued ≡ 0) → KeepsHeld w (dropCall w .world) k

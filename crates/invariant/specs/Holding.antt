@@ -1,5 +1,5 @@
 -- What holds of a world between any two calls of a history, and between any two steps of a push: one record, a sentence a field.
-use Prim.Native.Nat.{ℕ, _+_, _≤_, _<_}
+use Prim.Native.Nat.{ℕ, _+_, _-_, _/_, _≤_, _<_}
 use mathlib.Core.Path.{_≡_}
 use mathlib.Core.Logic.{_≢_}
 use mathlib.Core.Bool.{true, false, cond}
@@ -7,6 +7,7 @@ use mathlib.Core.List.{List}
 use lib.ListN.{length, getD}
 use lib.Dec.{ltb, eqb}
 use Rattle.words.specs.Run.{read}
+use Rattle.bits.specs.Bits.{bitsFrom}
 use Rattle.views.specs.View.{viewOf, isValid}
 use Rattle.blocks.specs.BlockLaws.{Power}
 use Rattle.books.specs.Entry.{entryOf, isFree}
@@ -14,7 +15,7 @@ use Rattle.sound.specs.Sound.{Sound, filledBytes}
 use Rattle.state.specs.declared.BatchCoalescer.{BatchCoalescer}
 use Rattle.state.specs.declared.OpenBlock.{OpenBlock}
 use Rattle.state.specs.World.{World, columnOf}
-use Rattle.state.specs.Layout.{isViews, cellPlace, rowsIn, listLength, queuedSlot}
+use Rattle.state.specs.Layout.{isViews, bitmapPlace, cellPlace, rowsIn, listLength, queuedSlot}
 use Rattle.state.specs.Rows.{listedAt, bufferAt}
 use Rattle.rules.specs.Batch.{sumTo}
 use Rattle.rules.specs.Views.{isOpen, openNumber}
@@ -69,6 +70,16 @@ pub record Queued (w : World) (slot : ℕ) : Type 0 where
 unfoldable pub rowsAt : World → (ℕ → ℕ) → ℕ → ℕ → ℕ
 rowsAt w ext slot c = cond (eqb slot (w .state .place)) (ext c) (rowsIn w slot)
 
+-- bit i is a spare one behind n rows: it lies behind their bits, in the byte of the last
+pub record IsSpare (n i : ℕ) : Type 0 where
+  pub some : 0 < n
+  pub behind : n ≤ i
+  pub byte : i / 8 ≡ (n - 1) / 8
+
+-- 01: "spare bits of the last bitmap byte are zero", in every column of every slot
+pub record Spared (w : World) (ext : ℕ → ℕ) : Type 0 where
+  pub spare : (slot c i : ℕ) → slot ≤ w .state .queue → c < w .state .columns → IsSpare (rowsAt w ext slot c) i → bitsFrom (w .slots) (bitmapPlace (w .state) slot c) 0 i ≡ 0
+
 -- ---- the invariant
 
 pub record Holding (w : World) (ext : ℕ → ℕ) : Type 0 where
@@ -95,11 +106,12 @@ pub record Holding (w : World) (ext : ℕ → ℕ) : Type 0 where
   -- every view of a row is valid over the buffers that its slot lists
   pub valid : (slot c i : ℕ) → slot ≤ w .state .queue → c < w .state .columns → isViews (w .state) c ≡ true → i < rowsAt w ext slot c → isValid (viewOf (w .slots) (cellPlace (w .state) slot c i)) (bufferAt w slot c) (reach w slot c) ≡ true
 
--- between two calls every column has the rows buffered, and they are fewer than the target; where there are none, nothing is listed for them
+-- between two calls every column has the rows buffered, they are fewer than the target, and spare bits are zero; where there are no rows, nothing is listed for them
 -- and no block is open
 pub record Between (w : World) : Type 0 where
   pub holding : Holding w (λ c. w .state .buffered .0)
   pub below : w .state .buffered .0 < w .state .target .0
+  pub spared : Spared w (λ c. w .state .buffered .0)
   pub begun : w .state .buffered .0 ≡ 0 → (c : ℕ) → c < w .state .columns → reach w (w .state .place) c ≡ 0
 
 -- ---- from one world to a later one

@@ -22,7 +22,6 @@ use Rattle.sound.specs.SoundLaws.{sound-recount}
 use Rattle.state.specs.declared.BatchCoalescer.{BatchCoalescer}
 use Rattle.state.specs.World.{World}
 use Rattle.state.specs.Layout.{widthOf, isViews, bitmapBytes, bitmapPlace, listPlace, cellPlace, rowsIn, listLength}
-use Rattle.state.specs.LayoutLaws.{bits-fit}
 use Rattle.state.specs.Where.{Where, cells, bitmap, listed, startOf, sizeOf, Inside, cells-inside, bitmap-inside, listed-inside, Other}
 use Rattle.state.specs.WhereLaws.{other-apart}
 use Rattle.state.specs.Rows.{listedAt}
@@ -52,9 +51,9 @@ module _ (s : BatchCoalescer) {p q : List ℕ} (a : Where) (f : Framed (startOf 
   pub cell-agrees : (slot c i : ℕ) → slot ≤ s .queue → c < s .columns → i < s .rows .0 → Other a (cells slot c i 1) → Agrees p (cellPlace s slot c i) q (cellPlace s slot c i) (widthOf s c)
   cell-agrees slot c i l m n o = rw (one-mul (widthOf s c)) at (thing-agrees (cells slot c i 1) (cells-inside l m (omega arith)) o)
 
-  pub bit-agrees : (slot c i : ℕ) → slot ≤ s .queue → c < s .columns → i < s .rows .0 → Other a (bitmap slot c) → bitsFrom q (bitmapPlace s slot c) 0 i ≡ bitsFrom p (bitmapPlace s slot c) 0 i
+  pub bit-agrees : (slot c i : ℕ) → slot ≤ s .queue → c < s .columns → i < 8 * bitmapBytes s → Other a (bitmap slot c) → bitsFrom q (bitmapPlace s slot c) 0 i ≡ bitsFrom p (bitmapPlace s slot c) 0 i
   bit-agrees slot c i l m n o =
-      agrees-bit (bitmapPlace s slot c) (bitmapBytes s) i (thing-agrees (bitmap slot c) (bitmap-inside l m) o) (omega (arith, bits-fit s))
+      agrees-bit (bitmapPlace s slot c) (bitmapBytes s) i (thing-agrees (bitmap slot c) (bitmap-inside l m) o) n
 
   pub entry-agrees : (slot c i : ℕ) → slot ≤ s .queue → c < s .columns → isViews s c ≡ true → i < s .lists → Other a (listed slot c i) → word32 q (listPlace s slot c + 4 * i) ≡ word32 p (listPlace s slot c + 4 * i)
   entry-agrees slot c i l m y n o =

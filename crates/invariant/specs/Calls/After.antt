@@ -14,13 +14,14 @@ use Rattle.rules.specs.Stays.{same-counts}
 use Rattle.rules.specs.SameLaws.{same-list-place}
 use Rattle.push_safety.specs.StepGoes.{buffering-goes}
 use Rattle.sound.specs.SoundLaws.{sound-recount}
-use Rattle.invariant.specs.Holding.{reach, numberAt, listings, rowsAt, Holding, PoolStays}
+use Rattle.invariant.specs.Holding.{reach, numberAt, listings, rowsAt, Spared, Holding, PoolStays}
 use Rattle.invariant.specs.BeginLaws.{begins-refl}
 use Rattle.invariant.specs.CountLaws.{times-same, listings-same, number-live}
 use Rattle.invariant.specs.AloneLaws.{counts-open, alone-counts}
 use Rattle.invariant.specs.PoolLaws.{relisted-is, books-stay, unheld-on}
 use Rattle.invariant.specs.Steps.Moves.{Moves}
-use Rattle.invariant.specs.Steps.MoveLaws.{SameSlots, Remains, remains-shows, remains-holding, rows-other, queued-slot-same}
+use Rattle.invariant.specs.Steps.MoveLaws.{SameSlots, Remains, remains-shows, remains-holding, rows-other, rows-same, queued-slot-same}
+use Rattle.invariant.specs.Steps.SpareMoves.{same-rows, spared-on}
 use Rattle.invariant.specs.RowLaws.{joined-append, rows-read, batches-read}
 
 -- v is w with rows pushed
@@ -101,6 +102,10 @@ module _ (w : World) (n : ℕ) where
   pub buffering-pool : PoolStays w (buffering w n)
   buffering-pool =
       books-stay w (buffering w n) refl refl (λ k l h. h) (λ k l h. relisted-is refl) (λ c k h. counts-open (w .state) (w .state .place) (w .state .queued) n c k)
+
+  pub buffering-spared : {ext : ℕ → ℕ} → Holding w ext → Spared w ext → (ext′ : ℕ → ℕ) → ((c : ℕ) → c < w .state .columns → ext′ c ≡ ext c) → Spared (buffering w n) ext′
+  buffering-spared {ext} a s ext′ e =
+      spared-on ext′ a (buffering-alike .set-up) s (λ slot c p q. same-rows (rows-same w (buffering w n) ext ext′ slot c refl (buffering-rows slot) (e c q)) (λ i l. refl))
 
   buffering-remains : {ext : ℕ → ℕ} → Holding w ext → Remains w ext (buffering w n)
   unfolding columnOf

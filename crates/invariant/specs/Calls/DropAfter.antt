@@ -44,6 +44,7 @@ use Rattle.invariant.specs.CountLaws.{sum-zero, times-same, listings-slo
 use Rattle.invariant.specs.AloneLaws.{counts-open, alone-counts}
 use Rattle.invariant.specs.PoolLaws.{relisted-hold, unheld-on}
 use Rattle.invariant.specs.Steps.MoveLaws.{sound-at, rows-filling, rows-other, rows-most, rows-same}
+use Rattle.invariant.specs.Steps.SpareMoves.{SpareCase, no-rows, same-rows, spared-on}
 use Rattle.invariant.specs.RowLaws.{rows-read, upTo-first, upTo-ext}
 use Rattle.invariant.specs.Calls.After.{rows-are}
 use Rattle.invariant.specs.Calls.DropLists.{Unlisted, dropping, lists-dropped, lists-unlisted}
@@ -316,11 +317,16 @@ module _ {w : World} (g : Between w) (some : w .state .queued ≢ 0) where
       valid-at slot c i p q y h (no d) =
           shows slot c i p d q (rw (rows-same w v (λ d. w .state .buffered .0) (λ d. w .state .buffered .0) slot c refl (rows-there slot d) refl) at h) .valid y
 
+  spare-case : (slot c : ℕ) → Dec (slot ≡ front) → SpareCase w v (λ c. w .state .buffered .0) (λ c. w .state .buffered .0) slot c
+  spare-case slot c (yes e) = no-rows (rows-other v (λ c. w .state .buffered .0) slot c (λ z. front-other (sym e ∙ z)) ∙ ap (rowsIn v) e ∙ rows-front)
+  spare-case slot c (no d) = same-rows (rows-same w v (λ c. w .state .buffered .0) (λ c. w .state .buffered .0) slot c refl (rows-there slot d) refl) (λ i l. refl)
+
   between : Between v
   between =
       record {
         holding = holding;
         below = g .below;
+        spared = spared-on (λ c. w .state .buffered .0) a same (g .spared) (λ slot c p q. spare-case slot c (ℕ-discrete slot front));
         begun = λ z c q. reaches place c (λ e. front-other (sym e)) q ∙ g .begun z c q;
       }
 

@@ -49,10 +49,11 @@ use Rattle.invariant.specs.BeginLaws.{begins-is}
 use Rattle.invariant.specs.Rests.{reach-open, number-open}
 use Rattle.invariant.specs.CountLaws.{listed-counted, number-below, number-live}
 use Rattle.invariant.specs.PoolLaws.{pool-refl, unheld-on}
-use Rattle.invariant.specs.Steps.MoveLaws.{SameSlots, Remains, remains-shows, remains-holding, rows-filling}
+use Rattle.invariant.specs.Steps.MoveLaws.{SameSlots, Remains, remains-shows, remains-holding, rows-filling, rows-same}
+use Rattle.invariant.specs.Steps.SpareMoves.{same-rows, spared-on}
 use Rattle.invariant.specs.RowLaws.{rows-read}
 use Rattle.invariant.specs.Calls.After.{queued-read, rows-are}
-use Rattle.invariant.specs.Steps.EntryMoves.{inMemory, memory-length, memory-reach, memory-remains}
+use Rattle.invariant.specs.Steps.EntryMoves.{inMemory, memory-length, memory-rows, memory-reach, memory-remains}
 
 -- ---- rows that remain
 
@@ -132,6 +133,7 @@ module _ {w : World} (g : Between w) (pool books : List ℕ) (f : Framed 0 (4 + 
             record {
               holding = remains-holding a run alike remains;
               below = g .below;
+              spared = spared-on (λ c. w .state .buffered .0) a (same-refl (w .state)) (g .spared) (λ slot c p q. same-rows (rows-same w v (λ c. w .state .buffered .0) (λ c. w .state .buffered .0) slot c refl (memory-rows w pool books f slot) refl) (λ i l. refl));
               begun = λ z c q. memory-reach w pool books f (w .state .place) c ∙ g .begun z c q;
             };
         batches = remains-batches a run alike remains;

@@ -64,7 +64,7 @@ module _ (w₀ : World) (b : Batch) where
     part : Holds (TakesPart w b from n) (Among steps) (partTaken w₀ w b from n)
     part =
         holds-among steps tt
-        (taken-takes w₀ w b from n (g .holding) x e (omega (arith, fits, bounds-say (w .state) (g .holding .run .fit .bounds) .target)) m)
+        (taken-takes w₀ w b from n (g .holding) x e (omega (arith, fits, bounds-say (w .state) (g .holding .run .fit .bounds) .target)) m (g .spared))
 
     full : (v : World) → TakesPart w b from n v → v .state .buffered .0 ≤ v .state .target .0
     full v t = omega (arith, t .buffered, fits, ap (λ r. r .0) (t .along .set-up .target))
@@ -74,7 +74,7 @@ module _ (w₀ : World) (b : Batch) where
 
     -- finished, and where it is full
     finish-part : (v : World) → TakesPart w b from n v → Holds (QueuesBuffered v) (Among (9 ∷ [])) (finished v)
-    finish-part v t = finished-after v (t .holding) (full v t) (not-none v t)
+    finish-part v t = finished-after v (t .holding) (full v t) (not-none v t) (t .spared)
 
     then-finished : (v u : World) → TakesPart w b from n v → QueuesBuffered v u → RowsBehind w (batchPart w b from n) u
     then-finished v u t f = record { between = f .between; after = after-nil (after-trans (takes-after t) (f .after)); bytes = λ z. f .along .bytes (t .along .bytes z); pool = pool-trans (t .along .pool) (f .along .pool) }
@@ -86,7 +86,7 @@ module _ (w₀ : World) (b : Batch) where
         (λ z. holds-among steps tt (holds-more (finish-part v t) (λ u f. then-finished v u t f) (λ k l. l)))
         (λ z. held
         (record {
-          between = record { holding = t .holding; below = omega (arith, full v t, eqb-false (v .state .buffered .0) (v .state .target .0) z); begun = λ y. absurd (omega (arith, t .buffered, some)) };
+          between = record { holding = t .holding; below = omega (arith, full v t, eqb-false (v .state .buffered .0) (v .state .target .0) z); begun = λ y. absurd (omega (arith, t .buffered, some)); spared = t .spared };
           after = takes-after t;
           bytes = t .along .bytes;
           pool = t .along .pool;
@@ -164,7 +164,7 @@ stepped-after w b g x some =
     go true p false e false f = rw (p, e, f, stepped) cut
     go true p false e true f =
         rw (p, e, f, stepped)
-        (holds-bind (λ v. queuedWhole v b) (holds-among steps tt (finished-after w (g .holding) (omega (arith, g .below)) (λ z. g))) behind)
+        (holds-bind (λ v. queuedWhole v b) (holds-among steps tt (finished-after w (g .holding) (omega (arith, g .below)) (λ z. g) (g .spared))) behind)
 
 -- ---- a push
 

@@ -166,7 +166,7 @@ module _ {w : World} {ext : ℕ → ℕ} (b : Batch) (c : ℕ) (a : Holding w ex
   still-here =
       record {
         bit = λ slot d i p r l.
-            agrees-bit (bitmapPlace (w .state) slot d) (bitmapBytes (w .state)) i (thing-agrees (bitmap slot d) (bitmap-inside p r) (λ j k. other-part (λ z. omega arith))) (omega (arith, bits-fit (w .state)));
+            agrees-bit (bitmapPlace (w .state) slot d) (bitmapBytes (w .state)) i (thing-agrees (bitmap slot d) (bitmap-inside p r) (λ j k. other-part (λ z. omega arith))) l;
       }
 
   cell-here : (slot d i : ℕ) → slot ≤ w .state .queue → d < w .state .columns → i < w .state .rows .0 → Agrees (w .slots) (cellPlace (w .state) slot d i) (v .slots) (cellPlace (w .state) slot d i) (widthOf (w .state) d)
@@ -320,7 +320,7 @@ module _ {w : World} {ext : ℕ → ℕ} (b : Batch) (c : ℕ) (a : Holding w ex
       record {
         rests = λ slot d i p r l.
             let m : i < w .state .rows .0 = omega (arith, rows-most w ext a slot d p r) in
-            record { bit = still-here .bit slot d i p r m; cell = cell-here slot d i p r m };
+            record { bit = still-here .bit slot d i p r (omega (arith, bits-fit (w .state))); cell = cell-here slot d i p r m };
         lists = one-lists one (record { more = omega (arith, reach-was, attached-reach); same = λ i l. number-was i (omega (arith, reach-was)) });
         stands = live-stands a stands-here;
         sound = sound-recount (listings v) sound-here (λ k l. omega (arith, one-listings one place-in q k, times-is k));

@@ -17,7 +17,7 @@ use Rattle.state.specs.declared.Column.{Column}
 use Rattle.state.specs.declared.OpenBlock.{OpenBlock}
 use Rattle.state.specs.World.{World, columnOf}
 use Rattle.state.specs.Layout.{tally, widthOf, isViews, listPlace, cellPlace, listLength, rowsIn}
-use Rattle.state.specs.LayoutLaws.{list-in}
+use Rattle.state.specs.LayoutLaws.{bits-fit, list-in}
 use Rattle.state.specs.Where.{Where, listed, Inside, listed-inside, Other, other-slot, other-column, other-part, behind}
 use Rattle.state.specs.Rows.{listedAt}
 use Rattle.rules.specs.Steps.{withColumn, inState, inSlots, counting, listing}
@@ -222,7 +222,7 @@ module _ {w : World} {ext : ℕ → ℕ} (c : ℕ) (a : Holding w ext) (q : c < 
       record {
         rests = λ slot d i p r h.
             let l : i < w .state .rows .0 = omega (arith, rows-most w ext a slot d p r) in
-            record { bit = still-here .bit slot d i p r l; cell = cell-here slot d i p r l };
+            record { bit = still-here .bit slot d i p r (omega (arith, bits-fit (w .state))); cell = cell-here slot d i p r l };
         lists = one-lists one (record { more = omega (arith, reach-here); same = number-here });
         stands = live-stands a stands-here;
         sound = sound-recount (listings shut) sound-here (λ k l. omega (arith, one-listings one (a .run .fit .place) q k, times-same w shut place c k reach-here number-here));

@@ -352,16 +352,11 @@ module _ {w : World} {ext : ℕ → ℕ} (b : Batch) (c from n : ℕ) (a : Holdi
 
   compacted-extends : Laid w b c (ext c) from n → Extends w ext b c from n v
   compacted-extends t =
-      stored-extends b c from n all-moves q h (laid-on b c (ext c) from n (a .run) (all-moves .beside) all-still q h t) stored
+      stored-extends b c from n all-moves q h (laid-on b c (ext c) from n (a .run) (all-moves .beside) all-still q h t) stored all-still
 
 -- ---- the step
 
--- rows more, no bit changed, and the block still open with so much more filled
-pub record Compacts (w : World) (ext : ℕ → ℕ) (b : Batch) (c from n : ℕ) (v : World) : Type 0 where
-  pub extends : Extends w ext b c from n v
-  pub still : BitsStill w v
-
-pub views-compacted : {w : World} {ext : ℕ → ℕ} (b : Batch) (c from n : ℕ) → Holding w ext → ReadableBatch w b → c < w .state .columns → isViews (w .state) c ≡ true → isOpen w c ≡ true → ext c + n ≤ w .state .rows .0 → from + n ≤ b .rows → longBefore w b c from n ≤ openRest w c → Laid w b c (ext c) from n → Holds (Compacts w ext b c from n) (Among []) (viewsCompacted w b c (ext c) from n)
+pub views-compacted : {w : World} {ext : ℕ → ℕ} (b : Batch) (c from n : ℕ) → Holding w ext → ReadableBatch w b → c < w .state .columns → isViews (w .state) c ≡ true → isOpen w c ≡ true → ext c + n ≤ w .state .rows .0 → from + n ≤ b .rows → longBefore w b c from n ≤ openRest w c → Laid w b c (ext c) from n → Holds (Extends w ext b c from n) (Among []) (viewsCompacted w b c (ext c) from n)
 views-compacted b c from n a x q y o h m r t =
     rw (compacted-is b c from n a x q y o h m r)
-    (held (record { extends = compacted-extends b c from n a x q y o h m r t; still = all-still b c from n a x q y o h m r }))
+    (held (compacted-extends b c from n a x q y o h m r t))

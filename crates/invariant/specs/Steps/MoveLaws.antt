@@ -19,11 +19,12 @@ use Rattle.views.specs.ShowLaws.{Keeps}
 use Rattle.state.specs.declared.BatchCoalescer.{BatchCoalescer}
 use Rattle.state.specs.World.{World, columnOf}
 use Rattle.state.specs.Layout.{widthOf, isViews, cellPlace, rowsIn, listLength, slotBefore, queuedSlot}
+use Rattle.state.specs.LayoutLaws.{bits-fit}
 use Rattle.state.specs.SlotLaws.{queued-in}
 use Rattle.state.specs.Rows.{listedAt, bufferAt}
 use Rattle.rules.specs.Batch.{Batch, recordOf, rowView, listedNumber, bytesListed, listedBytes, valuePlace, batchCell}
 use Rattle.rules.specs.Stays.{SameSetUp, Beside, beside-refl, beside-trans}
-use Rattle.rules.specs.SameLaws.{same-width, same-views, same-value-place, same-row-view, same-bitmap-place}
+use Rattle.rules.specs.SameLaws.{same-width, same-views, same-value-place, same-row-view, same-bitmap-bytes, same-bitmap-place}
 use Rattle.push_safety.specs.Run.{Run, Goes}
 use Rattle.push_safety.specs.BooksGo.{held-says}
 use Rattle.push_safety.specs.Firm.{goes-refl, goes-trans}
@@ -245,7 +246,7 @@ pub still-trans : {w v u : World} → Beside w v → BitsStill w v → BitsStill
 still-trans {w} {v} {u} b m n =
     record {
       bit = λ slot c i p q h.
-          let k = n .bit slot c i (omega (arith, b .set-up .queue)) (omega (arith, b .set-up .columns)) (omega (arith, ap (λ r. r .0) (b .set-up .rows))) in
+          let k = n .bit slot c i (omega (arith, b .set-up .queue)) (omega (arith, b .set-up .columns)) (omega (arith, same-bitmap-bytes (b .set-up))) in
           (rw (same-bitmap-place (b .set-up) slot c) at k) ∙ m .bit slot c i p q h;
     }
 
@@ -255,7 +256,7 @@ laid-on {w} {v} b c at from n r s m q h l =
     record {
       bit = λ j k.
           rw (same-bitmap-place (s .set-up) (v .state .place) c, s .place)
-          (m .bit (w .state .place) c (at + j) (r .fit .place) q (omega arith) ∙ l .bit j k);
+          (m .bit (w .state .place) c (at + j) (r .fit .place) q (omega (arith, bits-fit (w .state))) ∙ l .bit j k);
     }
 
 -- ---- more rows
