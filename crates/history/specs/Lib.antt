@@ -12,3 +12,5 @@ pub mod Cells
 pub mod Refusals
 pub mod Buffers
 pub mod Columns
+pub mod Pool
+pub mod Spare
