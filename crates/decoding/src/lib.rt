@@ -160,15 +160,9 @@ pub fn decode(bytes: &[u8]) -> Coded
     if bytes.len() == STATE_BYTES {
         let state = state_of(bytes);
         if is_coded(bytes) {
-            Coded {
-                number: 0,
-                state,
-            }
+            Coded { number: 0, state }
         } else {
-            Coded {
-                number: 14,
-                state,
-            }
+            Coded { number: 14, state }
         }
     } else {
         Coded {

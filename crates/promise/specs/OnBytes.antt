@@ -10,8 +10,9 @@ use Rattle.capi.specs.Api.{Memory, memory, said, told, number, both, finishing,
 use Rattle.capi.specs.HandsOn.{HandsOn}
 use Rattle.history.specs.Call.{OfBytes, Call, push, finish, drop, register, letGo, limit, read}
 
--- bytes that hold a world: they code its state, and slots, pool and books are its own
+-- bytes that hold a world: they are bytes that code its state, and slots, pool and books are its own
 pub record HoldsWorld (m : Memory) (w : World) : Type 0 where
+  pub bytes : Bytes (m .state)
   pub coded : decoded (m .state) .number ≡ 0
   pub is : worldIn m ≡ w
 

@@ -1,6 +1,6 @@
 -- What calls of the C layer leave holds the world of their history; so each push of the C layer is 01's, whatever came before it.
 use Prim.Native.Nat.{ℕ, _%_}
-use mathlib.Core.Path.{_≡_, sym, _∙_, ap}
+use mathlib.Core.Path.{_≡_, refl, sym, _∙_, ap}
 use mathlib.Core.Logic.{_≢_}
 use mathlib.Core.Bool.{Bool, true, false, _&&_, cond}
 use mathlib.Core.List.{List, [], _∷_, _++_}
@@ -17,9 +17,11 @@ use Rattle.rules.specs.Steps.{inState, withLimit}
 use Rattle.rules.specs.Calls.{Answered, Wanted, setUpCall, pushCall}
 use Rattle.rules.specs.CallLaws.{set-up-zero, set-up-done}
 use Rattle.codes.specs.declared.Coded.{Coded}
-use Rattle.codes.specs.Code.{stateBytes, codeOf, limitIn, decoded}
+use Rattle.codes.specs.Code.{stateBytes, codeOf, limitIn, limited, decoded}
 use Rattle.codes.specs.RoundLaws.{decoded-code, code-words}
 use Rattle.capi.specs.Api.{Memory, memory, Said, said, Told, told, Form, number, both, Given, given, pushing, finishing, dropping, registering, lettingGo, worldIn, coded, called, created, limitSet}
+use Rattle.capi.specs.ApiLaws.{decoded-length, limit-code}
+use Rattle.capi.specs.ApiLaws as api
 use Rattle.capi.specs.QuietLaws.{Quiet, pushing-quiet, finishing-quiet, dropping-quiet, registering-quiet, letting-go-quiet}
 use Rattle.capi.specs.HandsOn.{HandsOn, hands-orderly}
 use Rattle.invariant.specs.Holding.{Between}
@@ -37,7 +39,7 @@ use Rattle.promise.specs.OnBytes.{HoldsWorld, Sent, sent-push, sent-fini
 code-holds : (v : World) → length (v .state .column) ≡ 16 → Bytes (codeOf (v .state)) → HoldsWorld (memory (codeOf (v .state)) (v .slots) (v .pool) (v .books)) v
 code-holds v n is =
     let d = decoded-code (v .state) (code-words (v .state) n is) in
-    record { coded = ap (λ (x : Coded). x .number) d; is = ap (λ (x : Coded). world (x .state) (v .slots) (v .pool) (v .books)) d }
+    record { bytes = is; coded = ap (λ (x : Coded). x .number) d; is = ap (λ (x : Coded). world (x .state) (v .slots) (v .pool) (v .books)) d }
 
 coded-holds : (form : Form) (b : List ℕ) (g : Given) → g .number ≡ 0 → length (g .world .state .column) ≡ 16 → Bytes (coded form b g .memory .state) → HoldsWorld (coded form b g .memory) (g .world)
 unfolding coded
@@ -53,7 +55,7 @@ module _ (f : World → Given) (q : Quiet f) {m : Memory} {w : World} (h : Holds
   refused-holds form d =
       let e : f w .world ≡ w = q .same w d in
       let k : memory (m .state) (f w .world .slots) (f w .world .pool) (f w .world .books) ≡ m = ap (λ (v : World). memory (m .state) (v .slots) (v .pool) (v .books)) (e ∙ sym (h .is)) in
-      rw (ne-eqb (f w .number) 0 d, k) (record { coded = h .coded; is = h .is ∙ sym e })
+      rw (ne-eqb (f w .number) 0 d, k) (record { bytes = h .bytes; coded = h .coded; is = h .is ∙ sym e })
 
   pub called-holds : (form : Form) {r : ℕ} {m′ : Memory} → said r m′ ≡ called form f m → Bytes (m′ .state) → HoldsWorld m′ (f w .world)
   called-holds form {r} {m′} p is =
@@ -68,9 +70,10 @@ limit-holds : (flag rows : ℕ) {r : ℕ} {m : Memory} {w : World} {state : List
 unfolding limitSet
 limit-holds flag rows {r} {m} {w} {state} h n p is =
     let v : World = inState (worldIn m) (withLimit (worldIn m .state) (limitIn flag rows)) in
-    let e : state ≡ codeOf (v .state) = ap (λ (t : Told). t .bytes) (rw (eq-eqb (decoded (m .state) .number) 0 (h .coded)) at p) in
-    let k : HoldsWorld (memory (codeOf (v .state)) (m .slots) (m .pool) (m .books)) v = code-holds v (rw (← (h .is)) at n) (rw e at is) in
-    rw (e, ← (h .is)) k
+    let k : state ≡ limited (limitIn flag rows) (m .state) = ap (λ (t : Told). t .bytes) (rw (eq-eqb (length (m .state)) stateBytes (decoded-length (m .state) refl (h .coded))) at p) in
+    let e : state ≡ codeOf (v .state) = k ∙ ap (limited (limitIn flag rows)) (sym (api.decoded-code (m .state) refl (h .coded) (h .bytes))) ∙ limit-code (worldIn m .state) (limitIn flag rows) in
+    let j : HoldsWorld (memory (codeOf (v .state)) (m .slots) (m .pool) (m .books)) v = code-holds v (rw (← (h .is)) at n) (rw e at is) in
+    rw (e, ← (h .is)) j
 
 pub sent-holds : (m : Memory) (c : Call) {m′ : Memory} {w : World} → Between w → HoldsWorld m w → Sent m c m′ → Bytes (m′ .state) → HoldsWorld m′ (step w c .world)
 unfolding step pushing finishing dropping registering lettingGo
