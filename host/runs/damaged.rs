@@ -39,13 +39,15 @@ fn found(rng: &mut Rng, one: impl Fn(&mut Rng) -> Option<Damage>) -> Damage {
 fn make(world: &World, mut call: Call, damage: &Damage, tally: &mut Tally) {
     let mut memory: Memory = world.memory.clone();
     damage.apply(&mut memory, &mut call);
-    let foretold = if matches!(call, Call::Limit(_)) { None } else { damage.number };
+    // the limit's setter refuses nothing but bytes that are no state
+    let foretold = if matches!(call, Call::Limit(_)) { Some((memory.state.len() != 304) as u32) } else { damage.number };
     let _ = tally.check(&mut memory, &call, foretold, damage.name);
 }
 
-/// Memory damaged, then a call of any sort.
+/// Memory damaged, in one place or in two, then a call of any sort.
 fn damaged_memory(rng: &mut Rng, world: &World, push: &Call, tally: &mut Tally) {
-    let damage = found(rng, |rng| damage::memory::damage(rng, &world.memory));
+    let one = |rng: &mut Rng| found(rng, |rng| damage::memory::damage(rng, &world.memory));
+    let damage = if rng.one_in(4) { damage::both(one(rng), one(rng)).0 } else { one(rng) };
     let call = any_call(rng, world, push);
     make(world, call, &damage, tally);
 }

@@ -17,7 +17,7 @@ use Rattle.codes.specs.declared.Coded.{Coded}
 use Rattle.codes.specs.Code.{decoded}
 use Rattle.crossing.specs.Cross.{KeepsState}
 use Rattle.capi.specs.Api.{Memory, memory, said, number, Given, given, pushing, worldIn, coded, called}
-use Rattle.capi.specs.ApiLaws.{called-same, call-refused, call-done}
+use Rattle.capi.specs.ApiLaws.{Refuses, uncoded-is, called-same, call-refused, call-done}
 
 -- a call that gives an answer whatever the world
 unfoldable pub making : Answered → World → Given
@@ -34,12 +34,12 @@ pub record HandsOn (m : Memory) (x : Batch) (r : ℕ) (m′ : Memory) : Type 0 w
   pub is : said r m′ ≡ called number (making (answered step (m′ .slots) (m′ .pool) (m′ .books))) m
 
 module _ (b slots pool books : List ℕ) {d : Coded} (e : d ≡ decoded b) (x : Batch) where
-  pub hand-not : (d .number ≡ 0 → ⊥) → HandsOn (memory b slots pool books) x (d .number) (memory b slots pool books)
-  hand-not h =
+  pub hand-not : {r : ℕ} → (d .number ≡ 0 → ⊥) → Refuses slots pool books d r → HandsOn (memory b slots pool books) x r (memory b slots pool books)
+  hand-not h p =
       record {
         step = record { state = d .state; number = 0 };
         promised = λ z. absurd (h (ap (λ (y : Coded). y .number) e ∙ z));
-        is = call-refused number (making (answered (record { state = d .state; number = 0 }) slots pool books)) b slots pool books e h refl;
+        is = call-refused number (making (answered (record { state = d .state; number = 0 }) slots pool books)) b slots pool books e h (uncoded-is b slots pool books e p) refl;
       }
 
   hand-coded : {q : Step} {b′ slots′ pool′ books′ : List ℕ} {r : ℕ} → KeepsState (q .number) (q .state) b b′ r → said r (memory b′ slots′ pool′ books′) ≡ coded number b (given (answered q slots′ pool′ books′))

@@ -2,11 +2,15 @@
 // No function trusts its caller beyond what a slice is: its contract says what it answers and leaves on any bytes. An answer of two numbers is
 // one u64: the refusal in the upper 32 bits, or 0, and the value in the lower.
 ghost use mathlib.Core.Path.{_≡_};
+ghost use mathlib.Core.Bool.{cond};
 ghost use lib.ListN.{length};
+ghost use Rattle.ranges.specs.Tested.{fitsLengths};
 ghost use Rattle.rules.specs.Batch.{batch};
 ghost use Rattle.capi.specs.Api.{memory, said, told, number, both, finishing, dropping, registering, lettingGo, called, askedFor, askable, created};
 ghost use Rattle.capi.specs.HandsOn.{HandsOn};
 ghost use Rattle.capi.specs.Api.{bufferNumber, bufferRead, rowIn, rowRead, limitSet, limitRead, rowsBuffered, completedFlag, emptyFlag};
+use codes::Coded;
+use codes::STATE_BYTES;
 use counts::BufferNumber;
 use counts::ByteCount;
 use counts::RowCount;
@@ -14,11 +18,23 @@ use set_up::Wanted;
 use state::BatchCoalescer;
 use state::RowAnswer;
 
+// The refusal of bytes that do not code the state they hold: 1 is tested on that state as on any, and only then they are 14.
+fn uncoded(coded: Coded, slots: usize, pool: usize, books: usize) -> u32
+    ensures { λ r. ⌜ r ≡ cond (fitsLengths (coded .state) slots pool books) (coded .number) 1 ⌝ }
+{
+    let s = coded.state;
+    if ranges::fits_set_up(s, slots, pool, books) {
+        coded.number
+    } else {
+        1
+    }
+}
+
 // Whether set-up can be asked for: a state of 304 bytes, at most 16 kinds in whole words, and a pool whose length is a number of it.
 fn is_askable(state: usize, kinds: usize, pool: usize) -> bool
     ensures { λ r. ⌜ r ≡ askable state kinds pool ⌝ }
 {
-    (state == codes::STATE_BYTES) & ((kinds <= 64) & ((kinds % 4 == 0) & (pool <= 4294967295)))
+    (state == STATE_BYTES) & ((kinds <= 64) & ((kinds % 4 == 0) & (pool <= 4294967295)))
 }
 
 // Set-up. `kinds` are words of 4 bytes, one a column. 0, or 1 and nothing changed.
@@ -77,7 +93,7 @@ pub extern "C" fn pw_push_batch(
         let pushed = step.state;
         crossing::keep(state, step.number, pushed)
     } else {
-        coded.number
+        uncoded(coded, slots.len(), pool.len(), books.len())
     }
 }
 
@@ -99,7 +115,7 @@ pub extern "C" fn pw_finish_buffered_batch(
         let finished = step.state;
         crossing::keep(state, step.number, finished)
     } else {
-        coded.number
+        uncoded(coded, slots.len(), pool.len(), books.len())
     }
 }
 
@@ -122,7 +138,7 @@ pub extern "C" fn pw_next_completed_batch(
         let refusal = crossing::keep(state, dropped.number, t);
         crossing::both(refusal, dropped.rows.0)
     } else {
-        crossing::both(coded.number, 0)
+        crossing::both(uncoded(coded, slots.len(), pool.len(), books.len()), 0)
     }
 }
 
@@ -145,7 +161,7 @@ pub extern "C" fn pw_register_buffer(
         let answer = buffers::register_buffer(s, slots, pool, books, bytes, ByteCount(capacity));
         crossing::registered_pair(answer)
     } else {
-        crossing::both(coded.number, 0)
+        crossing::both(uncoded(coded, slots.len(), pool.len(), books.len()), 0)
     }
 }
 
@@ -166,7 +182,7 @@ pub extern "C" fn pw_let_go(
         let s = coded.state;
         buffers::let_go(s, slots, pool, books, BufferNumber(buffer))
     } else {
-        coded.number
+        uncoded(coded, slots.len(), pool.len(), books.len())
     }
 }
 
@@ -186,7 +202,7 @@ pub extern "C" fn pw_buffer_refusal(
         let s = coded.state;
         buffers::buffer_refusal(s, slots, pool, books, BufferNumber(buffer))
     } else {
-        coded.number
+        uncoded(coded, slots.len(), pool.len(), books.len())
     }
 }
 
@@ -230,7 +246,7 @@ fn row_answer(
         let s = coded.state;
         rows::read_row(s, slots, pool, books, column, row)
     } else {
-        RowAnswer::Refused(coded.number)
+        RowAnswer::Refused(uncoded(coded, slots.len(), pool.len(), books.len()))
     }
 }
 
@@ -256,19 +272,16 @@ pub extern "C" fn pw_read_row(
     }
 }
 
-// The limit set to so many rows, or unset where `set` is 0: 0, or the number of the refusal of bytes that code no state.
+// The limit set to so many rows, or unset where `set` is 0: nothing is refused, and only the limit's words change. 1 where there are not 304 bytes.
 #[no_mangle]
 pub extern "C" fn pw_set_biggest_coalesce_batch_size(state: &mut [u8], set: u32, rows: u32) -> u32
     ensures { λ r. ⌜ told r (now (state .exit)) ≡ limitSet set rows (now (state .entry)) ⌝ }
 {
-    let coded = decoding::decode(state);
-    if coded.number == 0 {
-        let s = coded.state;
-        let limit = decoding::limit_of(set, rows);
-        let t = queries::set_biggest_coalesce_batch_size(s, limit);
-        crossing::keep(state, 0, t)
+    if state.len() == STATE_BYTES {
+        encoding::set_limit(state, decoding::limit_of(set, rows));
+        0
     } else {
-        coded.number
+        1
     }
 }
 

@@ -10,6 +10,9 @@ decode-requires c κs = search needs
 buffer-refusal-requires : tie.Need-buffer-refusal-requires
 buffer-refusal-requires c κs = search needs
 
+uncoded-requires : tie.Need-uncoded-requires
+uncoded-requires c κs = search needs
+
 returns : tie.Need-returns
 returns c = search (refusal-read, needs)
 
@@ -18,4 +21,4 @@ returns-2 c = search (refusal-not, needs)
 
 pub pw-buffer-refusal-spec : {M : Type 1} → statement M
 pw-buffer-refusal-spec =
-    tie.close (tie.spec decode-requires buffer-refusal-requires returns returns-2)
+    tie.close (tie.spec decode-requires buffer-refusal-requires uncoded-requires returns returns-2)

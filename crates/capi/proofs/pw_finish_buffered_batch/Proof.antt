@@ -13,6 +13,9 @@ finish-buffered-batch-requires c κs = search needs
 keep-requires : tie.Need-keep-requires
 keep-requires c κs = search (decoded-length, needs)
 
+uncoded-requires : tie.Need-uncoded-requires
+uncoded-requires c κs = search needs
+
 same-length : tie.Need-same-length
 same-length c = search needs
 
@@ -38,6 +41,7 @@ pw-finish-buffered-batch-spec =
     decode-requires
     finish-buffered-batch-requires
     keep-requires
+    uncoded-requires
     same-length
     same-length-2
     same-length-3

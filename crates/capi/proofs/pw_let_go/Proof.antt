@@ -11,6 +11,9 @@ decode-requires c κs = search needs
 let-go-requires : tie.Need-let-go-requires
 let-go-requires c κs = search needs
 
+uncoded-requires : tie.Need-uncoded-requires
+uncoded-requires c κs = search needs
+
 same-length : tie.Need-same-length
 same-length c = search needs
 
@@ -21,4 +24,4 @@ returns-2 : tie.Need-returns-2
 returns-2 c = search (number-refused, needs)
 
 pub pw-let-go-spec : {M : Type 1} → statement M
-pw-let-go-spec = tie.close (tie.spec decode-requires let-go-requires same-length returns returns-2)
+pw-let-go-spec = tie.close (tie.spec decode-requires let-go-requires uncoded-requires same-length returns returns-2)

@@ -16,6 +16,9 @@ keep-requires c κs = search (decoded-length, needs)
 both-requires : tie.Need-both-requires
 both-requires c κs = search needs
 
+uncoded-requires : tie.Need-uncoded-requires
+uncoded-requires c κs = search needs
+
 both-requires-2 : tie.Need-both-requires-2
 both-requires-2 c κs = search needs
 
@@ -42,6 +45,7 @@ pw-next-completed-batch-spec =
     next-completed-batch-requires
     keep-requires
     both-requires
+    uncoded-requires
     both-requires-2
     same-length
     same-length-2

@@ -14,6 +14,9 @@ push-batch-requires c κs = search needs
 keep-requires : tie.Need-keep-requires
 keep-requires c κs = search (decoded-length, needs)
 
+uncoded-requires : tie.Need-uncoded-requires
+uncoded-requires c κs = search needs
+
 same-length : tie.Need-same-length
 same-length c = search needs
 
@@ -42,6 +45,7 @@ pw-push-batch-spec =
     decode-requires
     push-batch-requires
     keep-requires
+    uncoded-requires
     same-length
     same-length-2
     same-length-3

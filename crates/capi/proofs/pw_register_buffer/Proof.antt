@@ -14,6 +14,9 @@ register-buffer-requires c κs = search needs
 registered-pair-requires : tie.Need-registered-pair-requires
 registered-pair-requires c κs = search needs
 
+uncoded-requires : tie.Need-uncoded-requires
+uncoded-requires c κs = search needs
+
 both-requires : tie.Need-both-requires
 both-requires c κs = search needs
 
@@ -36,6 +39,7 @@ pw-register-buffer-spec =
     decode-requires
     register-buffer-requires
     registered-pair-requires
+    uncoded-requires
     both-requires
     same-length
     same-length-2

@@ -10,6 +10,9 @@ decode-requires c κs = search needs
 read-row-requires : tie.Need-read-row-requires
 read-row-requires c κs = search needs
 
+uncoded-requires : tie.Need-uncoded-requires
+uncoded-requires c κs = search needs
+
 returns : tie.Need-returns
 returns c = search (row-is, needs)
 
@@ -17,4 +20,4 @@ returns-2 : tie.Need-returns-2
 returns-2 c = search (row-not, needs)
 
 pub row-answer-spec : {M : Type 1} → statement M
-row-answer-spec = tie.close (tie.spec decode-requires read-row-requires returns returns-2)
+row-answer-spec = tie.close (tie.spec decode-requires read-row-requires uncoded-requires returns returns-2)
