@@ -6,8 +6,7 @@ ghost use mathlib.Core.Bool.{cond};
 ghost use lib.ListN.{length};
 ghost use Rattle.ranges.specs.Tested.{fitsLengths};
 ghost use Rattle.rules.specs.Batch.{batch};
-ghost use Rattle.capi.specs.Api.{memory, said, told, number, both, finishing, dropping, registering, lettingGo, called, askedFor, askable, created};
-ghost use Rattle.capi.specs.HandsOn.{HandsOn};
+ghost use Rattle.capi.specs.Api.{memory, said, told, number, both, pushing, finishing, dropping, registering, lettingGo, called, askedFor, askable, created};
 ghost use Rattle.capi.specs.Api.{bufferNumber, bufferRead, rowIn, rowRead, limitSet, limitRead, rowsBuffered, completedFlag, emptyFlag};
 use codes::Coded;
 use codes::STATE_BYTES;
@@ -83,8 +82,8 @@ pub extern "C" fn pw_push_batch(
     body: &[u8],
     rows: u32,
 ) -> u32
-    ensures { λ r. ⌜ HandsOn (memory (now (state .entry)) (now (slots .entry)) (now (pool .entry)) (now (books .entry))) (batch rows (now (records .entry)) (now (body .entry))) r
-        (memory (now (state .exit)) (now (slots .exit)) (now (pool .exit)) (now (books .exit))) ⌝ }
+    ensures { λ r. ⌜ said r (memory (now (state .exit)) (now (slots .exit)) (now (pool .exit)) (now (books .exit)))
+        ≡ called number (pushing (batch rows (now (records .entry)) (now (body .entry)))) (memory (now (state .entry)) (now (slots .entry)) (now (pool .entry)) (now (books .entry))) ⌝ }
 {
     let coded = decoding::decode(state);
     if coded.number == 0 {

@@ -25,7 +25,18 @@ pub fn new(
         (memory (now (state .entry)) (now (slots .entry)) (now (pool .entry)) (now (books .entry))) r
         (memory (now (state .exit)) (now (slots .entry)) (now (pool .entry)) (now (books .exit))) ⌝ }
 {
-    capi::pw_new(state, slots, pool, books, kinds, target, rows, queue, lists, numbers)
+    capi::pw_new(
+        state,
+        slots,
+        pool,
+        books,
+        kinds,
+        target,
+        rows,
+        queue,
+        lists,
+        numbers,
+    )
 }
 
 pub fn push_batch(
@@ -56,12 +67,7 @@ pub fn finish_buffered_batch(
     capi::pw_finish_buffered_batch(state, slots, pool, books)
 }
 
-pub fn next_completed_batch(
-    state: &mut [u8],
-    slots: &[u8],
-    pool: &[u8],
-    books: &mut [u8],
-) -> u64
+pub fn next_completed_batch(state: &mut [u8], slots: &[u8], pool: &[u8], books: &mut [u8]) -> u64
     ensures { λ r. ⌜ Sent (memory (now (state .entry)) (now (slots .entry)) (now (pool .entry)) (now (books .entry))) drop r
         (memory (now (state .exit)) (now (slots .entry)) (now (pool .entry)) (now (books .exit))) ⌝ }
 {
