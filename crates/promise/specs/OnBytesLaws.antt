@@ -172,8 +172,7 @@ module _ {w : World} (g : Between w) where
       go : Dec (w .state .queued ≡ 0) → (dropCall w .rows < 2 ^ 32) × (eqb (dropCall w .rows) 0 ≡ eqb (w .state .queued) 0)
       go (yes e) = rw (drop-empty w (between-tested g) e) (omega arith, sym (eq-eqb (w .state .queued) 0 e))
       go (no n) =
-          rw (drop-front w (between-tested g) n, ne-eqb (w .state .queued) 0 n)
-          (
+          rw (drop-front w (between-tested g) n, ne-eqb (w .state .queued) 0 n) (
             omega (arith, g .holding .counted (frontSlot w) in-queue, bounds-say (w .state) (g .holding .run .fit .bounds) .rows),
             ne-eqb (rowsIn w (frontSlot w)) 0 (λ z. absurd (omega (arith, z, g .holding .some (frontSlot w) (record { turn = 0; below = omega arith; is = refl })))),
           )
