@@ -25,7 +25,7 @@ pub fn new(
         (memory (now (state .entry)) (now (slots .entry)) (now (pool .entry)) (now (books .entry))) r
         (memory (now (state .exit)) (now (slots .entry)) (now (pool .entry)) (now (books .exit))) ⌝ }
 {
-    capi::pw_new(
+    capi_set_up::pw_new(
         state,
         slots,
         pool,
@@ -52,7 +52,7 @@ pub fn push_batch(
         (batch rows (now (records .entry)) (now (body .entry))) r
         (memory (now (state .exit)) (now (slots .exit)) (now (pool .exit)) (now (books .exit))) ⌝ }
 {
-    capi::pw_push_batch(state, slots, pool, books, records, body, rows)
+    capi_batches::pw_push_batch(state, slots, pool, books, records, body, rows)
 }
 
 pub fn finish_buffered_batch(
@@ -64,14 +64,14 @@ pub fn finish_buffered_batch(
     ensures { λ r. ⌜ Sent (memory (now (state .entry)) (now (slots .entry)) (now (pool .entry)) (now (books .entry))) finish r
         (memory (now (state .exit)) (now (slots .exit)) (now (pool .entry)) (now (books .exit))) ⌝ }
 {
-    capi::pw_finish_buffered_batch(state, slots, pool, books)
+    capi_batches::pw_finish_buffered_batch(state, slots, pool, books)
 }
 
 pub fn next_completed_batch(state: &mut [u8], slots: &[u8], pool: &[u8], books: &mut [u8]) -> u64
     ensures { λ r. ⌜ Sent (memory (now (state .entry)) (now (slots .entry)) (now (pool .entry)) (now (books .entry))) drop r
         (memory (now (state .exit)) (now (slots .entry)) (now (pool .entry)) (now (books .exit))) ⌝ }
 {
-    capi::pw_next_completed_batch(state, slots, pool, books)
+    capi_batches::pw_next_completed_batch(state, slots, pool, books)
 }
 
 pub fn register_buffer(
@@ -85,20 +85,20 @@ pub fn register_buffer(
     ensures { λ r. ⌜ Sent (memory (now (state .entry)) (now (slots .entry)) (now (pool .entry)) (now (books .entry))) (register (now (bytes .entry)) capacity) r
         (memory (now (state .entry)) (now (slots .entry)) (now (pool .exit)) (now (books .exit))) ⌝ }
 {
-    capi::pw_register_buffer(state, slots, pool, books, bytes, capacity)
+    capi_buffers::pw_register_buffer(state, slots, pool, books, bytes, capacity)
 }
 
 pub fn let_go(state: &[u8], slots: &[u8], pool: &[u8], books: &mut [u8], buffer: u32) -> u32
     ensures { λ r. ⌜ Sent (memory (now (state .entry)) (now (slots .entry)) (now (pool .entry)) (now (books .entry))) (letGo buffer) r
         (memory (now (state .entry)) (now (slots .entry)) (now (pool .entry)) (now (books .exit))) ⌝ }
 {
-    capi::pw_let_go(state, slots, pool, books, buffer)
+    capi_buffers::pw_let_go(state, slots, pool, books, buffer)
 }
 
 pub fn set_biggest_coalesce_batch_size(state: &mut [u8], set: u32, rows: u32) -> u32
     ensures { λ r. ⌜ SentLimit set rows (now (state .entry)) r (now (state .exit)) ⌝ }
 {
-    capi::pw_set_biggest_coalesce_batch_size(state, set, rows)
+    capi_state::pw_set_biggest_coalesce_batch_size(state, set, rows)
 }
 
 // ---- reads
@@ -114,7 +114,7 @@ pub fn read_row(
 ) -> u32
     ensures { λ r. ⌜ ReadsRow (memory (now (state .entry)) (now (slots .entry)) (now (pool .entry)) (now (books .entry))) column row (now (out .entry)) r (now (out .exit)) ⌝ }
 {
-    capi::pw_read_row(state, slots, pool, books, column, row, out)
+    capi_reads::pw_read_row(state, slots, pool, books, column, row, out)
 }
 
 pub fn read_buffer(
@@ -127,35 +127,35 @@ pub fn read_buffer(
 ) -> u64
     ensures { λ r. ⌜ ReadsBuffer (memory (now (state .entry)) (now (slots .entry)) (now (pool .entry)) (now (books .entry))) buffer (now (out .entry)) r (now (out .exit)) ⌝ }
 {
-    capi::pw_read_buffer(state, slots, pool, books, buffer, out)
+    capi_reads::pw_read_buffer(state, slots, pool, books, buffer, out)
 }
 
 pub fn buffer_refusal(state: &[u8], slots: &[u8], pool: &[u8], books: &[u8], buffer: u32) -> u32
     ensures { λ r. ⌜ ReadsRefusal (memory (now (state .entry)) (now (slots .entry)) (now (pool .entry)) (now (books .entry))) buffer r ⌝ }
 {
-    capi::pw_buffer_refusal(state, slots, pool, books, buffer)
+    capi_reads::pw_buffer_refusal(state, slots, pool, books, buffer)
 }
 
 pub fn biggest_coalesce_batch_size(state: &[u8]) -> u64
     ensures { λ r. ⌜ ReadsLimit (now (state .entry)) r ⌝ }
 {
-    capi::pw_biggest_coalesce_batch_size(state)
+    capi_state::pw_biggest_coalesce_batch_size(state)
 }
 
 pub fn get_buffered_rows(state: &[u8]) -> u32
     ensures { λ r. ⌜ ReadsRows (now (state .entry)) r ⌝ }
 {
-    capi::pw_get_buffered_rows(state)
+    capi_state::pw_get_buffered_rows(state)
 }
 
 pub fn has_completed_batch(state: &[u8]) -> u32
     ensures { λ r. ⌜ ReadsCompleted (now (state .entry)) r ⌝ }
 {
-    capi::pw_has_completed_batch(state)
+    capi_state::pw_has_completed_batch(state)
 }
 
 pub fn is_empty(state: &[u8]) -> u32
     ensures { λ r. ⌜ ReadsEmpty (now (state .entry)) r ⌝ }
 {
-    capi::pw_is_empty(state)
+    capi_state::pw_is_empty(state)
 }
