@@ -154,17 +154,21 @@ impl World {
         Ok(())
     }
 
-    /// "Block size, per view column, kept across batches": what an ask for a minimum gives, and what is kept after it.
+    /// What an ask of column c for a minimum gives.
     fn asked(&mut self, c: usize, minimum: usize) -> usize {
-        let kept = &mut self.state.column[c].kept;
-        if *kept < 1_048_576 {
+        asked(&mut self.state.column[c].kept, minimum)
+    }
+}
+
+/// "Block size, per view column, kept across batches": what an ask for a minimum gives, and what is kept after it.
+pub fn asked(kept: &mut usize, minimum: usize) -> usize {
+    if *kept < 1_048_576 {
+        *kept *= 2;
+    }
+    if *kept < minimum {
+        while *kept <= minimum && *kept < 1_048_576 {
             *kept *= 2;
         }
-        if *kept < minimum {
-            while *kept <= minimum && *kept < 1_048_576 {
-                *kept *= 2;
-            }
-        }
-        minimum.max(*kept)
     }
+    minimum.max(*kept)
 }
