@@ -21,6 +21,8 @@ BEGIN = '<!-- made by tools/believed.py: do not edit by hand -->'
 END = '<!-- end of what tools/believed.py made -->'
 # the call by value behind `pw_NAME` is NAME, but for this one
 BY_VALUE = {'new': 'new_coalescer'}
+# the setter on bytes puts the limit's words itself: the call by value stands beside it
+BESIDE = {'set_biggest_coalesce_batch_size': {'queries'}}
 ORDER = ('history', 'History', 'in-order')
 WORKED = ('worked', 'Worked', 'worked')
 # premises that every world of a history meets, by a theorem: what they say need not be believed
@@ -92,7 +94,7 @@ def exported(repository):
     for source, function in layer:
         name = function.name.removeprefix('pw_')
         name = BY_VALUE.get(name, name)
-        crates = set(re.findall(rf'\b(\w+)::{name}\(', source.text))
+        crates = set(re.findall(rf'\b(\w+)::{name}\(', source.text)) or BESIDE.get(name, set())
         found = [(other, other.functions[name]) for key, other in repository.sources.items() if key[0] in crates and name in other.functions]
         if len(found) != 1:
             raise antt.Unresolved(f'{source.path}: {function.name} calls {len(found)} functions {name}')
