@@ -187,7 +187,7 @@ def structs(seen):
 
 
 def counts(items):
-    return sum(i.lines() for i in items), sum(i.comments for i in items), len({i.file for i in items})
+    return sum(i.lines() for i in items), sum(i.remarks() for i in items), len({i.file for i in items})
 
 
 def reading_order(repository, items):
