@@ -4,7 +4,7 @@ usage: edges.py CAPTURE. `host/run edges CAPTURE` says what must be printed for 
 import sys
 
 from capture import Capture, column, inline, plain, text, U64, U8, UTF8, views, WIDTH
-from edges_refusals import ranges, records, room, set_ups
+from edges_refusals import older_state, open_blocks, ranges, records, room, set_ups
 
 
 def cuts(x):
@@ -297,7 +297,7 @@ def room_again(x):
 
 def main():
     x = Capture()
-    for part in (cuts, all_kinds, null_rows, attach_or_compact, walks, set_ups, ranges, records, room, room_again):
+    for part in (cuts, all_kinds, null_rows, attach_or_compact, walks, set_ups, ranges, open_blocks, older_state, records, room, room_again):
         part(x)
     open(sys.argv[1], 'wb').write(x.data)
 

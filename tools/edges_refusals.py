@@ -77,6 +77,78 @@ def ranges(x):
         x.let_go(7)
 
 
+def open_blocks(x):
+    data = text(100)
+
+    def fresh():
+        x.set_up(t=4, r=8, q=2, b=3, n=8, kinds=(UTF8, UTF8), p=40000)
+        x.register(data, 200)
+        x.push(1, column(views(data, [(0, 20)]), listed=[0]), column(views(data, [(0, 20)]), listed=[0]))
+        x.register(b'Asha')
+        x.let_go(0)
+
+    x.note('-- 14: an open block in use, free, not in use, not below N')
+    for number in (1, 0, 4, 8):
+        fresh()
+        x.poke(0, 48 + 12, number)
+        x.let_go(7)
+    x.note('-- 14: each column has its own block; both the first; both the second')
+    for at, number in ((48 + 12, 1), (64 + 12, 1), (48 + 12, 2)):
+        fresh()
+        x.poke(0, at, number)
+        x.let_go(7)
+    x.note('-- 14 in the steps of a push: a block under a free number whose entry is not zero (start, capacity, length), which stays; 11 and 12 come first')
+    one = (column(views(data, [(0, 20)]), listed=[0]),)
+    for at in (0, 4, 8, None):
+        x.set_up(t=4, n=3, b=1)
+        x.register(data, 200)
+        if at is not None:
+            x.poke(2, 4 + 20 + at, 5)
+        x.push(1, *one)
+        x.show(2, 0, 64)
+    for n, p in ((1, 32768), (3, 400)):
+        x.set_up(t=4, n=n, p=p)
+        x.register(data, 200)
+        if n > 1:
+            x.poke(2, 4 + 20, 5)
+        x.push(1, *one)
+    x.note('-- registering takes such a number, and its entry is written whole')
+    x.set_up(t=4, n=3)
+    x.poke(2, 4 + 8, 5)
+    x.register(b'Asha')
+    x.books()
+
+
+def older_state(x):
+    x.note('-- a push with a state that an earlier call left, over the memory of now: its blocks were freed since; refused, and no row changes')
+    data = text(10000)
+    x.set_up(t=8, r=8, q=2, b=8, n=4, p=27000, kinds=(UTF8, UTF8))
+    x.register(data, 10000)
+    listed = [0, 0, 0]
+    x.push(1, column([inline(b'a')]), column(views(data, [(0, 20)]), listed=listed))
+    x.push(1, column(views(data, [(0, 20)]), listed=listed), column([inline(b'b')]))
+    x.register(b'x' * 100, 100)
+    x.finish()
+    x.drop()
+    for k in range(2):
+        x.push(8, column([inline(b'q%d' % k)] * 8), column([inline(b'r%d' % k)] * 8))
+    x.push(3, column([inline(b'one'), inline(b'two'), inline(b'three')]), column([inline(b'un'), inline(b'deux'), inline(b'trois')], [1, 1, 0]))
+    x.drop()
+    x.drop()
+    # the six words of the state that differ from those after the second push, and back
+    for at, value in ((44, 2), (48 + 8, 1), (48 + 12, 2), (64 + 8, 1), (64 + 12, 1)):
+        x.poke(0, at, value)
+    x.push(2, column(views(data, [(0, 2500), (2500, 2500)]), listed=listed), column(views(data, [(0, 6000), (3000, 6000)]), listed=listed))
+    for at, value in ((44, 3), (48 + 8, 0), (48 + 12, 0), (64 + 8, 0), (64 + 12, 0)):
+        x.poke(0, at, value)
+    x.books()
+    x.finish()
+    for c in (0, 1):
+        for i in range(3):
+            x.row(c, i)
+    x.drop()
+
+
 def records(x):
     x.note('-- 2, 3: record bytes, rows over R')
     data = text(100)

@@ -9,9 +9,9 @@ use Rattle.pool.specs.Register.{refusalOf}
 use Rattle.state.specs.declared.RowAnswer.{RowAnswer}
 use Rattle.state.specs.World.{World, world}
 use Rattle.rules.specs.Batch.{Batch}
-use Rattle.rules.specs.Steps.{withLimit}
+use Rattle.rules.specs.Ranges.{fitsSetUp}
 use Rattle.rules.specs.Calls.{Answered, Wanted, setUpCall, pushCall, finishCall, dropCall, registerCall, letGoCall, readRow, rowRefusal, bufferNumberCall, bufferCall, limitOf, bufferedCount, hasCompleted, isEmpty}
-use Rattle.codes.specs.Code.{stateBytes, codeOf, limitIn, decoded}
+use Rattle.codes.specs.Code.{stateBytes, limitIn, limited, decoded}
 use Rattle.crossing.specs.Cross.{keptAs, pair, numberIn, limitPair, rowBytes, wordsFrom}
 
 -- ---- what is said
@@ -88,7 +88,7 @@ lettingGo i w = given (letGoCall w i)
 
 -- ---- the same on bytes
 
--- the world that bytes hold
+-- the world that bytes hold, whether they code its state or not
 abbrev pub worldIn : Memory → World
 worldIn m = world (decoded (m .state) .state) (m .slots) (m .pool) (m .books)
 
@@ -98,10 +98,15 @@ coded form b g =
     said (inForm form (g .number) (g .value))
     (memory (keptAs (g .number) (g .world .state) b) (g .world .slots) (g .world .pool) (g .world .books))
 
--- a call on bytes: those that code no state are refused, with 1 or 14, and nothing changes
+-- the refusal of bytes that do not code the state they hold: 1 is tested on that state as on any, and only then they are 14. Bytes that are not 304
+-- hold none, and are 1. 01: "Every call after set-up tests 1, then 14"
+unfoldable pub uncoded : Memory → ℕ
+uncoded m = cond (fitsSetUp (worldIn m)) (decoded (m .state) .number) 1
+
+-- a call on bytes: those that code no state are refused, and nothing changes
 unfoldable pub called : Form → (World → Given) → Memory → Said
 called form f m =
-    cond (eqb (decoded (m .state) .number) 0) (coded form (m .state) (f (worldIn m))) (said (inForm form (decoded (m .state) .number) 0) m)
+    cond (eqb (decoded (m .state) .number) 0) (coded form (m .state) (f (worldIn m))) (said (inForm form (uncoded m) 0) m)
 
 -- set-up: of a state of 304 bytes, with whole words as kinds. All else that is wrong is 01's refusal, with the same number
 abbrev pub askedFor : ℕ → ℕ → ℕ → ℕ → ℕ → List ℕ → ℕ → Wanted
@@ -132,7 +137,7 @@ created a kinds m =
 
 -- the number beside the read of a buffer; the read, its bytes as far as they go
 unfoldable pub bufferNumber : Memory → ℕ → ℕ
-bufferNumber m i = cond (eqb (decoded (m .state) .number) 0) (bufferNumberCall (worldIn m) i) (decoded (m .state) .number)
+bufferNumber m i = cond (eqb (decoded (m .state) .number) 0) (bufferNumberCall (worldIn m) i) (uncoded m)
 
 unfoldable pub partIn : Memory → ℕ → List ℕ
 partIn m i = cond (eqb (decoded (m .state) .number) 0) (bufferCall (worldIn m) i) []
@@ -144,25 +149,25 @@ bufferRead m i out = told (length (partIn m i)) (lay 0 (partIn m i) out)
 -- row i of column c of the front batch, in 20 bytes
 unfoldable pub rowIn : Memory → ℕ → ℕ → RowAnswer
 rowIn m c i =
-    cond (eqb (decoded (m .state) .number) 0) (readRow (worldIn m) c i) (RowAnswer.Refused (decoded (m .state) .number))
+    cond (eqb (decoded (m .state) .number) 0) (readRow (worldIn m) c i) (RowAnswer.Refused (uncoded m))
 
 -- 01: "Reading a row answers by cases"; 1 where `out` is not of 20 bytes
 unfoldable pub rowRead : Memory → ℕ → ℕ → List ℕ → Told
 rowRead m c i out =
     cond (eqb (length out) 20) (told (rowRefusal (rowIn m c i)) (rowBytes (rowIn m c i) out)) (told 1 out)
 
--- ---- the state alone: bytes that code none count as a state of zeros
+-- ---- the state alone. 01: these calls "work on the state alone and refuse nothing": they take 304 bytes as they are. Other bytes are no state:
+-- the setter answers 1, and the reads answer those of a state of zeros
 
--- set_biggest_coalesce_batch_size: a flag and the rows
+-- set_biggest_coalesce_batch_size: a flag and the rows. The limit's words change, and nothing else
 unfoldable pub limitSet : ℕ → ℕ → List ℕ → Told
-limitSet flag rows b =
-    cond (eqb (decoded b .number) 0) (told 0 (codeOf (withLimit (decoded b .state) (limitIn flag rows)))) (told (decoded b .number) b)
+limitSet flag rows b = cond (eqb (length b) stateBytes) (told 0 (limited (limitIn flag rows) b)) (told 1 b)
 
 -- biggest_coalesce_batch_size
 unfoldable pub limitRead : List ℕ → ℕ
 limitRead b = limitPair (limitOf (decoded b .state))
 
--- get_buffered_rows, has_completed_batch, is_empty. 01: they "work on the state alone and refuse nothing"
+-- get_buffered_rows, has_completed_batch, is_empty
 unfoldable pub rowsBuffered : List ℕ → ℕ
 rowsBuffered b = bufferedCount (decoded b .state)
 

@@ -16,9 +16,9 @@ use Rattle.pool.specs.Register.{refusalOf}
 use Rattle.state.specs.declared.BatchCoalescer.{BatchCoalescer}
 use Rattle.state.specs.declared.Limit.{Limit}
 use Rattle.state.specs.declared.RowAnswer.{RowAnswer}
-use Rattle.state.specs.World.{World, world}
+use Rattle.state.specs.World.{World, world, columnOf}
 use Rattle.rules.specs.Batch.{Batch}
-use Rattle.rules.specs.Ranges.{tested}
+use Rattle.rules.specs.Ranges.{fitsSetUp, tested}
 use Rattle.rules.specs.Steps.{each, counting, withLimit}
 use Rattle.rules.specs.Calls.{Answered, pushCall, finishCall, listDropped, uncounted, dropped, dropCall, registerCall, letGoCall, readRow, rowRefusal, bufferNumberCall, bufferCall, limitOf, bufferedCount, hasCompleted, isEmpty}
 use Rattle.rules.specs.CallLaws.{drop-tested, drop-empty, drop-front}
@@ -29,10 +29,12 @@ use Rattle.completed.specs.Drop.{Drops}
 use Rattle.buffers.specs.Buffers.{RegistersCall, LetsGoCall}
 use Rattle.finishing.specs.Finish.{answered}
 use Rattle.codes.specs.declared.Coded.{Coded}
-use Rattle.codes.specs.Code.{stateBytes, codeOf, limitIn, isCoded, stateIn, decoded}
+use Rattle.ranges.specs.Tested.{fitsLengths}
+use Rattle.codes.specs.Code.{stateBytes, codeOf, limitIn, setUpWords, countWords, columnsWords, limited, isCoded, stateIn, decoded}
 use Rattle.codes.specs.TakeLaws.{code-state}
+use Rattle.codes.specs.LimitLaws.{limited-code}
 use Rattle.crossing.specs.Cross.{keptAs, KeepsState, pair, numberIn, limitPair, rowBytes}
-use Rattle.capi.specs.Api.{Memory, memory, said, told, Form, number, both, inForm, Given, given, pushing, finishing, dropping, registering, lettingGo, worldIn, coded, called}
+use Rattle.capi.specs.Api.{Memory, memory, said, told, Form, number, both, inForm, Given, given, pushing, finishing, dropping, registering, lettingGo, worldIn, coded, uncoded, called}
 use Rattle.capi.specs.Api.{bufferNumber, partIn, bufferRead, rowIn, rowRead, limitSet, limitRead, rowsBuffered, completedFlag, emptyFlag}
 
 -- ---- what decoding says
@@ -52,7 +54,7 @@ module _ (b : List ℕ) {d : Coded} (e : d ≡ decoded b) (z : d .number ≡ 0) 
 
   codes-it : (y : Bool) → isCoded b ≡ y → (isCoded b ≡ true) × (d .state ≡ stateIn b)
   unfolding decoded
-  codes-it true q = (q, ap (λ (x : Coded). x .state) e ∙ rw (eq-eqb (length b) stateBytes decoded-length, q))
+  codes-it true q = (q, ap (λ (x : Coded). x .state) e ∙ rw (eq-eqb (length b) stateBytes decoded-length))
   codes-it false q =
       let r : _≡_ {A = ℕ} 14 0 = rw (eq-eqb (length b) stateBytes decoded-length, q) at zero-is in absurd (omega arith)
 
@@ -63,10 +65,24 @@ module _ (b : List ℕ) {d : Coded} (e : d ≡ decoded b) (z : d .number ≡ 0) 
 
 -- ---- calls
 
+-- what the layer answers of bytes that do not code the state they hold
+abbrev pub Refuses : List ℕ → List ℕ → List ℕ → Coded → ℕ → Type 0
+Refuses slots pool books d r = r ≡ cond (fitsLengths (d .state) (length slots) (length pool) (length books)) (d .number) 1
+
+pub refuses-fits : {f x : Bool} (n : ℕ) → x ≡ f → x ≡ true → n ≡ cond f n 1
+refuses-fits n e t = rw (← e, t)
+
+pub refuses-one : {f x : Bool} (n : ℕ) → x ≡ f → x ≡ false → _≡_ {A = ℕ} 1 (cond f n 1)
+refuses-one n e t = rw (← e, t)
+
+pub uncoded-is : (b slots pool books : List ℕ) {d : Coded} {r : ℕ} → d ≡ decoded b → Refuses slots pool books d r → r ≡ uncoded (memory b slots pool books)
+unfolding uncoded fitsSetUp fitsLengths
+uncoded-is b slots pool books e p = rw (p, e)
+
 module _ (form : Form) (f : World → Given) (b slots pool books : List ℕ) {d : Coded} (e : d ≡ decoded b) where
-  pub call-refused : {r : ℕ} → (d .number ≡ 0 → ⊥) → r ≡ inForm form (d .number) 0 → said r (memory b slots pool books) ≡ called form f (memory b slots pool books)
+  pub call-refused : {n r : ℕ} → (d .number ≡ 0 → ⊥) → n ≡ uncoded (memory b slots pool books) → r ≡ inForm form n 0 → said r (memory b slots pool books) ≡ called form f (memory b slots pool books)
   unfolding called
-  call-refused h p = rw (← e, ne-eqb (d .number) 0 h, p)
+  call-refused h q p = rw (← e, ne-eqb (d .number) 0 h, p, q)
 
   pub call-done : {g : Given} → d .number ≡ 0 → f (world (d .state) slots pool books) ≡ g → coded form b g ≡ called form f (memory b slots pool books)
   unfolding called
@@ -82,11 +98,11 @@ called-same form f g m h = go (ℕ-discrete (decoded (m .state) .number) 0)
     go (no z) = rw (ne-eqb (decoded (m .state) .number) 0 z)
 
 module _ (f : World → Given) (b slots pool books : List ℕ) {d : Coded} (e : d ≡ decoded b) (h : d .number ≡ 0 → ⊥) where
-  pub number-refused : said (d .number) (memory b slots pool books) ≡ called number f (memory b slots pool books)
-  number-refused = call-refused number f b slots pool books e h refl
+  pub number-refused : {r : ℕ} → Refuses slots pool books d r → said r (memory b slots pool books) ≡ called number f (memory b slots pool books)
+  number-refused p = call-refused number f b slots pool books e h (uncoded-is b slots pool books e p) refl
 
-  pub both-refused : {r : ℕ} → r ≡ pair (d .number) 0 → said r (memory b slots pool books) ≡ called both f (memory b slots pool books)
-  both-refused p = call-refused both f b slots pool books e h p
+  pub both-refused : {n r : ℕ} → Refuses slots pool books d n → r ≡ pair n 0 → said r (memory b slots pool books) ≡ called both f (memory b slots pool books)
+  both-refused q p = call-refused both f b slots pool books e h (uncoded-is b slots pool books e q) p
 
 -- a call that answers a number and keeps the state: push and finish
 module _ (f : World → Answered) (g : World → Given) (same : (w : World) → g w ≡ given (f w)) (b slots pool books : List ℕ) {d : Coded} (e : d ≡ decoded b) (z : d .number ≡ 0) where
@@ -192,9 +208,9 @@ module _ (b slots pool books : List ℕ) {d : Coded} (e : d ≡ decoded b) (z : 
 -- ---- reads
 
 module _ (b slots pool books : List ℕ) {d : Coded} (e : d ≡ decoded b) where
-  pub refusal-not : (i : ℕ) → (d .number ≡ 0 → ⊥) → d .number ≡ bufferNumber (memory b slots pool books) i
+  pub refusal-not : (i : ℕ) {r : ℕ} → (d .number ≡ 0 → ⊥) → Refuses slots pool books d r → r ≡ bufferNumber (memory b slots pool books) i
   unfolding bufferNumber
-  refusal-not i h = rw (← e, ne-eqb (d .number) 0 h)
+  refusal-not i h p = rw (← e, ne-eqb (d .number) 0 h) (uncoded-is b slots pool books e p)
 
   pub refusal-read : (i : ℕ) {r : ℕ} → d .number ≡ 0 → r ≡ bufferNumberCall (world (d .state) slots pool books) i → r ≡ bufferNumber (memory b slots pool books) i
   unfolding bufferNumber
@@ -216,9 +232,9 @@ module _ (b slots pool books : List ℕ) {d : Coded} (e : d ≡ decoded b) where
   unfolding bufferRead
   read-done i out z p q = rw (q, p, part-is i z)
 
-  pub row-not : (c i : ℕ) → (d .number ≡ 0 → ⊥) → RowAnswer.Refused (d .number) ≡ rowIn (memory b slots pool books) c i
+  pub row-not : (c i : ℕ) {r : ℕ} → (d .number ≡ 0 → ⊥) → Refuses slots pool books d r → RowAnswer.Refused r ≡ rowIn (memory b slots pool books) c i
   unfolding rowIn
-  row-not c i h = rw (← e, ne-eqb (d .number) 0 h)
+  row-not c i h p = rw (← e, ne-eqb (d .number) 0 h) (ap (λ (n : ℕ). RowAnswer.Refused n) (uncoded-is b slots pool books e p))
 
   pub row-is : (c i : ℕ) {a : RowAnswer} → d .number ≡ 0 → a ≡ readRow (world (d .state) slots pool books) c i → a ≡ rowIn (memory b slots pool books) c i
   unfolding rowIn
@@ -235,15 +251,26 @@ module _ (m : Memory) (c i : ℕ) (out : List ℕ) where
 
 -- ---- the state alone
 
+module _ (b : List ℕ) (flag rows : ℕ) where
+  pub limit-not : (length b ≡ stateBytes → ⊥) → told 1 b ≡ limitSet flag rows b
+  unfolding limitSet
+  limit-not h = rw (ne-eqb (length b) stateBytes h)
+
+  pub limit-done : {l : Limit} {b′ : List ℕ} → length b ≡ stateBytes → l ≡ limitIn flag rows → b′ ≡ limited l b → told 0 b′ ≡ limitSet flag rows b
+  unfolding limitSet
+  limit-done h p q = rw (eq-eqb (length b) stateBytes h, q, p)
+
+-- of bytes that code a state they are those of the state with that limit
+limit-columns : (s : BatchCoalescer) (l : Limit) (n : ℕ) → columnsWords (withLimit s l) n ≡ columnsWords s n
+unfolding columnsWords columnOf
+limit-columns s l zero = refl
+limit-columns s l (suc n) = rw (limit-columns s l n)
+
+pub limit-code : (s : BatchCoalescer) (l : Limit) → limited l (codeOf s) ≡ codeOf (withLimit s l)
+unfolding setUpWords countWords
+limit-code s l = limited-code s (withLimit s l) refl refl (limit-columns s l 16)
+
 module _ (b : List ℕ) {d : Coded} (e : d ≡ decoded b) where
-  pub limit-not : (flag rows : ℕ) → (d .number ≡ 0 → ⊥) → told (d .number) b ≡ limitSet flag rows b
-  unfolding limitSet
-  limit-not flag rows h = rw (← e, ne-eqb (d .number) 0 h)
-
-  pub limit-done : (flag rows : ℕ) {l : Limit} {t : BatchCoalescer} {b′ : List ℕ} {r : ℕ} → d .number ≡ 0 → l ≡ limitIn flag rows → t ≡ withLimit (d .state) l → KeepsState 0 t b b′ r → told r b′ ≡ limitSet flag rows b
-  unfolding limitSet
-  limit-done flag rows z p q k = rw (k .answer-is, k .bytes-are, q, p, ← e, eq-eqb (d .number) 0 z)
-
   pub limit-said : {l : Limit} {r : ℕ} → l ≡ limitOf (d .state) → r ≡ limitPair l → r ≡ limitRead b
   unfolding limitRead
   limit-said p q = q ∙ ap limitPair p ∙ ap (λ (x : Coded). limitPair (limitOf (x .state))) e

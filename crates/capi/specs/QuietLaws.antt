@@ -13,11 +13,11 @@ use Rattle.rules.specs.CallLaws.{push-refused, finish-refused, drop-refused}
 use Rattle.rules.specs.RegisterLaws.{register-refused, let-go-refused}
 use Rattle.codes.specs.Code.{decoded}
 use Rattle.crossing.specs.Cross.{pair}
-use Rattle.capi.specs.Api.{Memory, Form, number, both, Given, pushing, finishing, dropping, registering, lettingGo, worldIn, coded, called}
+use Rattle.capi.specs.Api.{Memory, Form, number, both, Given, pushing, finishing, dropping, registering, lettingGo, worldIn, coded, uncoded, called}
 
 -- the number of the refusal, or 0, and the value beside it
 unfoldable pub numberOf : (World → Given) → Memory → ℕ
-numberOf f m = cond (eqb (decoded (m .state) .number) 0) (f (worldIn m) .number) (decoded (m .state) .number)
+numberOf f m = cond (eqb (decoded (m .state) .number) 0) (f (worldIn m) .number) (uncoded m)
 
 unfoldable pub valueOf : (World → Given) → Memory → ℕ
 valueOf f m = cond (eqb (decoded (m .state) .number) 0) (f (worldIn m) .value) 0

@@ -5,7 +5,7 @@ use mathlib.Core.Bool.{Bool, cond, _&&_}
 use mathlib.Core.List.{List, [], _∷_, _++_}
 use lib.ListN.{length, replicate}
 use lib.Dec.{eqb}
-use Rattle.words.specs.Word.{word32}
+use Rattle.words.specs.Word.{word32, withWord32}
 use Rattle.search.specs.Every.{every}
 use Rattle.state.specs.declared.BatchCoalescer.{BatchCoalescer}
 use Rattle.state.specs.declared.Column.{Column}
@@ -74,6 +74,10 @@ bytesOf (w ∷ ws) = w % 256 ∷ w / 256 % 256 ∷ w / 65536 % 256 ∷ w / 16777
 unfoldable pub codeOf : BatchCoalescer → List ℕ
 codeOf s = bytesOf (wordsOf s)
 
+-- the bytes of a state with another limit: its two words, and every other byte as it was
+unfoldable pub limited : Limit → List ℕ → List ℕ
+limited l b = withWord32 (withWord32 b 28 (limitFlag l)) 32 (limitNumber l)
+
 -- each number of a column is a word
 pub record ColumnFits (d : Column) : Type 0 where
   pub kind-fits : d .kind < 2 ^ 32
@@ -124,7 +128,7 @@ unfoldable pub columnsIn : List ℕ → ℕ → List Column
 columnsIn b zero = []
 columnsIn b (suc c) = columnsIn b c ++ (columnIn b c ∷ [])
 
--- the state that bytes code
+-- the state that bytes hold, whatever they are: a flag that is not 0 is set
 unfoldable pub stateIn : List ℕ → BatchCoalescer
 stateIn b =
     record {
@@ -151,7 +155,7 @@ isCoded b = isFlagged (word32 b 28) (word32 b 32) && every (isColumnCoded b) 16
 
 -- ---- what decoding answers
 
--- the state of zeros, beside a refusal
+-- the state of zeros, of bytes that are not 304
 unfoldable pub zeroState : BatchCoalescer
 zeroState =
     record {
@@ -169,9 +173,9 @@ zeroState =
       column = replicate 16 noColumn;
     }
 
--- 1 where the bytes are not so many, 14 where they code no state
+-- the state that 304 bytes hold, and 14 beside it where they do not code it; 1 where they are not so many
 unfoldable pub decoded : List ℕ → Coded
 decoded b =
     cond (eqb (length b) stateBytes)
-    (cond (isCoded b) (record { number = 0; state = stateIn b }) (record { number = 14; state = zeroState }))
+    (record { number = cond (isCoded b) 0 14; state = stateIn b })
     (record { number = 1; state = zeroState })

@@ -3,3 +3,4 @@ pub mod Code
 pub mod PutLaws
 pub mod TakeLaws
 pub mod RoundLaws
+pub mod LimitLaws

@@ -3,8 +3,8 @@ use Prim.Native.Nat.{ℕ, suc, _+_, _*_, _/_, _%_, _≤_, _<_}
 use mathlib.Core.Path.{_≡_, refl, sym, _∙_, ap}
 use mathlib.Core.List.{List, [], _∷_, _++_, append-assoc, append-nil}
 use native.Mathlib.Omega.{arith}
-use lib.ListN.{length, take, getD, set, length-set}
-use lib.Seq.{take-suc-set, take-all}
+use lib.ListN.{length, take, drop, getD, set, length-set}
+use lib.Seq.{take-suc-set, take-all, drop-set-lt}
 use Rattle.words.specs.Word.{withWord32}
 use Rattle.words.specs.WordLaws.{length-withWord32}
 use Rattle.state.specs.declared.BatchCoalescer.{BatchCoalescer}
@@ -30,6 +30,7 @@ use Rattle.codes.specs.Code.{
   countWords,
   wordsOf,
   codeOf,
+  limited,
 }
 
 -- the bytes of words are those of the first ones and of the rest
@@ -95,13 +96,34 @@ column-put b t u at d e f =
     let n : at + 16 ≡ at + 8 + 8 = omega arith in
     rw n (words-behind (take (at + 8 + 8) u) (take (at + 8) t) (take at b) (d .kind ∷ d .source .current .0 ∷ []) (blockWords (d .block)) f e)
 
-pub limit-put-rows : (l : Limit) (k : RowCount) (x p : List ℕ) → l ≡ Limit.Rows k → x ≡ p ++ bytesOf (1 ∷ k .0 ∷ []) → x ≡ p ++ bytesOf (limitWords l)
-unfolding limitWords limitFlag limitNumber
-limit-put-rows l k x p h e = rw h e
+-- the limit's two words, by its cases; they stand behind what stood before them, and what stood behind them stays
+pub limited-rows : (l : Limit) {k : RowCount} (b : List ℕ) {t u : List ℕ} → l ≡ Limit.Rows k → t ≡ withWord32 b 28 1 → u ≡ withWord32 t 32 (k .0) → u ≡ limited l b
+unfolding limited limitFlag limitNumber
+limited-rows l b h e f = rw (f, e, h)
 
-pub limit-put-unset : (l : Limit) (x p : List ℕ) → l ≡ Limit.Unset → x ≡ p ++ bytesOf (0 ∷ 0 ∷ []) → x ≡ p ++ bytesOf (limitWords l)
-unfolding limitWords limitFlag limitNumber
-limit-put-unset l x p h e = rw h e
+pub limited-unset : (l : Limit) (b : List ℕ) {t u : List ℕ} → l ≡ Limit.Unset → t ≡ withWord32 b 28 0 → u ≡ withWord32 t 32 0 → u ≡ limited l b
+unfolding limited limitFlag limitNumber
+limited-unset l b h e f = rw (f, e, h)
+
+pub limited-take : (l : Limit) (b : List ℕ) {u : List ℕ} → u ≡ limited l b → length b ≡ stateBytes → take 36 u ≡ take 28 b ++ bytesOf (limitWords l)
+unfolding limited limitWords
+limited-take l b e h = two-put b 28 (limitFlag l) (limitNumber l) refl e (omega arith)
+
+word-drop : (b : List ℕ) (n at v : ℕ) → at + 4 ≤ n → drop n (withWord32 b at v) ≡ drop n b
+unfolding withWord32
+word-drop b n at v h =
+    drop-set-lt n _ (at + 3) (v / 16777216) (omega arith)
+    ∙ drop-set-lt n _ (at + 2) (v / 65536 % 256) (omega arith)
+    ∙ drop-set-lt n _ (at + 1) (v / 256 % 256) (omega arith)
+    ∙ drop-set-lt n b at (v % 256) (omega arith)
+
+pub limited-drop : (l : Limit) (b : List ℕ) → drop 36 (limited l b) ≡ drop 36 b
+unfolding limited
+limited-drop l b = word-drop _ 36 32 (limitNumber l) (omega arith) ∙ word-drop b 36 28 (limitFlag l) (omega arith)
+
+pub length-limited : (l : Limit) (b : List ℕ) → length (limited l b) ≡ length b
+unfolding limited
+length-limited l b = length-withWord32 _ 32 (limitNumber l) ∙ length-withWord32 b 28 (limitFlag l)
 
 pub block-put-number : (o : OpenBlock) (k : BufferNumber) (x p : List ℕ) → o ≡ OpenBlock.Number k → x ≡ p ++ bytesOf (1 ∷ k .0 ∷ []) → x ≡ p ++ bytesOf (blockWords o)
 unfolding blockWords blockFlag blockNumber

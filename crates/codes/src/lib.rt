@@ -5,7 +5,7 @@ use state::BatchCoalescer;
 // The bytes of a coded state.
 pub const STATE_BYTES: usize = 304;
 
-// What bytes code: a state, or none; `number` is the refusal, or 0.
+// What bytes hold: a state, and in `number` 0 where they code it, else 14; 1 and the state of zeros where they are not so many.
 pub struct Coded {
     pub number: u32,
     pub state: BatchCoalescer,

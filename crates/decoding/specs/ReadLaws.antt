@@ -117,7 +117,7 @@ module _ (b : List ℕ) where
       let t : isCoded b ≡ true = sym p ∙ q in
       rw (eq-eqb (length b) stateBytes h, t, e)
 
-  pub decoded-none : {r : Bool} {s : BatchCoalescer} → length b ≡ stateBytes → r ≡ isCoded b → r ≡ false → s ≡ zeroState → _≡_ {A = Coded} (record { number = 14; state = s }) (decoded b)
+  pub decoded-none : {r : Bool} {s : BatchCoalescer} → length b ≡ stateBytes → r ≡ isCoded b → r ≡ false → s ≡ stateIn b → _≡_ {A = Coded} (record { number = 14; state = s }) (decoded b)
   unfolding decoded
   decoded-none h p q e =
       let t : isCoded b ≡ false = sym p ∙ q in

@@ -1,5 +1,5 @@
 // The state that coded bytes hold: docs/LAYOUT.md, "State".
-// Bytes that code no state are told apart: a flag that is neither 0 nor 1, or a word that should be zero and is not.
+// Bytes that do not code the state that they hold are told apart: a flag that is neither 0 nor 1, or a word that should be zero and is not.
 ghost use mathlib.Core.Path.{_≡_};
 ghost use Prim.Native.Nat.{_<_};
 ghost use lib.ListN.{length};
@@ -104,7 +104,7 @@ fn columns_of(bytes: &[u8]) -> [Column; 16]
     column
 }
 
-// The state of zeros, beside a refusal.
+// The state of zeros, of bytes that are not 304.
 fn zero_state() -> BatchCoalescer
     ensures { λ r. ⌜ r ≡ zeroState ⌝ }
 {
@@ -153,21 +153,16 @@ fn state_of(bytes: &[u8]) -> BatchCoalescer
     }
 }
 
-// The state that bytes code: 1 where they are not so many, 14 where they code none.
+// The state that 304 bytes hold, and 14 beside it where they do not code it; 1 where they are not so many.
 pub fn decode(bytes: &[u8]) -> Coded
     ensures { λ r. ⌜ r ≡ decoded (now (bytes .entry)) ⌝ }
 {
     if bytes.len() == STATE_BYTES {
+        let state = state_of(bytes);
         if is_coded(bytes) {
-            Coded {
-                number: 0,
-                state: state_of(bytes),
-            }
+            Coded { number: 0, state }
         } else {
-            Coded {
-                number: 14,
-                state: zero_state(),
-            }
+            Coded { number: 14, state }
         }
     } else {
         Coded {

@@ -3,7 +3,7 @@ ghost use mathlib.Core.Path.{_≡_};
 ghost use Prim.Native.Nat.{_+_, _≤_};
 ghost use mathlib.Core.List.{[], _∷_, _++_};
 ghost use lib.ListN.{length, take};
-ghost use Rattle.codes.specs.Code.{stateBytes, columnsAt, bytesOf, limitWords, blockWords, columnWords, columnsWords, setUpWords, countWords, codeOf, Words};
+ghost use Rattle.codes.specs.Code.{stateBytes, columnsAt, bytesOf, limitWords, blockWords, columnWords, columnsWords, setUpWords, countWords, codeOf, limited, Words};
 use state::BatchCoalescer;
 use state::Column;
 use state::Limit;
@@ -37,16 +37,19 @@ fn put_set_up(bytes: &mut [u8], s: BatchCoalescer)
     put_three(bytes, 16, s.lists, s.numbers, s.pool.0);
 }
 
-fn put_limit(bytes: &mut [u8], limit: Limit)
+// The limit's two words, and nothing else changed; so they stand behind what stood before them.
+pub fn set_limit(bytes: &mut [u8], limit: Limit)
     requires { ⌜ length (now bytes) ≡ stateBytes ⌝ }
-    ensures { λ _. ⌜ take 36 (now (bytes .exit)) ≡ take 28 (now (bytes .entry)) ++ bytesOf (limitWords limit) ⌝ }
+    ensures { λ _. ⌜ (now (bytes .exit) ≡ limited limit (now (bytes .entry))) × (take 36 (now (bytes .exit)) ≡ take 28 (now (bytes .entry)) ++ bytesOf (limitWords limit)) ⌝ }
 {
     match limit {
         Limit::Rows(most) => {
-            put_two(bytes, 28, 1, most.0);
+            words::put32(bytes, 28, 1);
+            words::put32(bytes, 32, most.0);
         }
         Limit::Unset => {
-            put_two(bytes, 28, 0, 0);
+            words::put32(bytes, 28, 0);
+            words::put32(bytes, 32, 0);
         }
     }
 }
@@ -100,7 +103,7 @@ pub fn encode(bytes: &mut [u8], s: BatchCoalescer)
 {
     let limit = s.limit;
     put_set_up(bytes, s);
-    put_limit(bytes, limit);
+    set_limit(bytes, limit);
     put_counts(bytes, s);
     put_columns(bytes, s);
 }

@@ -16,13 +16,24 @@ pub fn make(
 ) -> u64 {
     let what = x.what;
     match what {
-        1 => refused(capi::pw_new(state, slots, pool, books, first, x.a, x.b, x.c, x.d, x.e)),
-        2 => capi::pw_register_buffer(state, slots, pool, books, second, x.a),
-        3 => refused(capi::pw_let_go(state, slots, pool, books, x.a)),
-        4 => refused(capi::pw_push_batch(state, slots, pool, books, first, second, x.a)),
-        5 => refused(capi::pw_finish_buffered_batch(state, slots, pool, books)),
-        6 => capi::pw_next_completed_batch(state, slots, pool, books),
-        7 => refused(capi::pw_set_biggest_coalesce_batch_size(state, x.a, x.b)),
+        1 => refused(capi_set_up::pw_new(
+            state,
+            slots,
+            pool,
+            books,
+            first,
+            x.a,
+            x.b,
+            x.c,
+            x.d,
+            x.e,
+        )),
+        2 => capi_buffers::pw_register_buffer(state, slots, pool, books, second, x.a),
+        3 => refused(capi_buffers::pw_let_go(state, slots, pool, books, x.a)),
+        4 => refused(capi_batches::pw_push_batch(state, slots, pool, books, first, second, x.a)),
+        5 => refused(capi_batches::pw_finish_buffered_batch(state, slots, pool, books)),
+        6 => capi_batches::pw_next_completed_batch(state, slots, pool, books),
+        7 => refused(capi_state::pw_set_biggest_coalesce_batch_size(state, x.a, x.b)),
         12 => poke(state, slots, books, x),
         _ => 0,
     }
@@ -30,17 +41,17 @@ pub fn make(
 
 // 1 where a batch is queued, else 0.
 pub fn completed(state: &[u8]) -> u32 {
-    capi::pw_has_completed_batch(state)
+    capi_state::pw_has_completed_batch(state)
 }
 
 // What the state says; the batches queued stand in its word 10.
 pub fn counts(state: &[u8]) -> Counts {
     Counts {
-        buffered: capi::pw_get_buffered_rows(state),
+        buffered: capi_state::pw_get_buffered_rows(state),
         queued: answers::word_at(state, 40),
         completed: completed(state),
-        empty: capi::pw_is_empty(state),
-        limit: answers::answer_in(capi::pw_biggest_coalesce_batch_size(state)),
+        empty: capi_state::pw_is_empty(state),
+        limit: answers::answer_in(capi_state::pw_biggest_coalesce_batch_size(state)),
     }
 }
 
@@ -74,8 +85,8 @@ pub fn buffer(
     number: u32,
     out: &mut [u8],
 ) -> u64 {
-    let size = capi::pw_read_buffer(state, slots, pool, books, number, out);
-    let refusal = capi::pw_buffer_refusal(state, slots, pool, books, number);
+    let size = capi_reads::pw_read_buffer(state, slots, pool, books, number, out);
+    let refusal = capi_reads::pw_buffer_refusal(state, slots, pool, books, number);
     refused(refusal) + size % 4294967296
 }
 
@@ -90,7 +101,7 @@ pub fn cell(
     out: &mut [u8],
 ) -> Cell {
     let mut five = [0u8; 20];
-    let refusal = capi::pw_read_row(state, slots, pool, books, column, row, &mut five);
+    let refusal = capi_reads::pw_read_row(state, slots, pool, books, column, row, &mut five);
     let found = answers::cell_in(refusal, &five);
     if found.kind == 2 {
         buffer(state, slots, pool, books, found.place, out);

@@ -129,10 +129,10 @@ fn coding(rng: &mut Rng, facts: &Facts) -> Option<Damage> {
     let (name, flag) = if rng.one_in(2) { ("state: limit set", 7) } else { ("state: open", 14 + 4 * c) };
     let (set, beside) = (facts.state(flag), facts.state(flag + 1));
     match rng.below(3) {
-        0 => Some(Damage::no_state(name, state(flag, rng.pick(&[2, 256, MAX])))),
-        1 if set == 1 && beside != 0 => Some(Damage::no_state("state: flag 0 beside a word", state(flag, 0))),
+        0 => Some(Damage::of(name, state(flag, rng.pick(&[2, 256, MAX])), Some(14))),
+        1 if set == 1 && beside != 0 => Some(Damage::of("state: flag 0 beside a word", state(flag, 0), Some(14))),
         1 => None,
-        _ if set == 0 => Some(Damage::no_state("state: word beside a flag of 0", state(flag + 1, rng.pick(&[1, MAX])))),
+        _ if set == 0 => Some(Damage::of("state: word beside a flag of 0", state(flag + 1, rng.pick(&[1, MAX])), Some(14))),
         _ => None,
     }
 }

@@ -42,8 +42,6 @@ pub struct Damage {
     pub number: Option<u32>,
     pub column: usize,
     pub row: usize,
-    /// the state's bytes code no state
-    pub no_state: bool,
 }
 
 impl Damage {
@@ -54,21 +52,13 @@ impl Damage {
 
     /// A damage of a pushed column.
     pub fn at(name: &'static str, changes: Vec<Change>, number: Option<u32>, column: usize, row: usize) -> Damage {
-        Damage { name, changes, number, column, row, no_state: false }
+        Damage { name, changes, number, column, row }
     }
 
-    /// A damage of the state's flags: 14, since its bytes code no state.
-    pub fn no_state(name: &'static str, change: Change) -> Damage {
-        Damage { no_state: true, ..Damage::of(name, change, Some(14)) }
-    }
-
-    /// Its place in 01's order: "1, 14, then .. 2, 3, then per column 4, 5, 6, and 7 by rows". Bytes that code no state have no set-up
-    /// lengths, so that only the state's own length is tested before them.
+    /// Its place in 01's order: "1, 14, then .. 2, 3, then per column 4, 5, 6, and 7 by rows".
     fn rank(&self) -> (u32, usize, u32, usize) {
         match self.number.unwrap_or(0) {
-            1 if matches!(self.changes[0], Change::Short(Bytes::State) | Change::Long(Bytes::State)) => (0, 0, 0, 0),
-            14 if self.no_state => (0, 1, 0, 0),
-            1 => (0, 2, 0, 0),
+            1 => (0, 0, 0, 0),
             14 => (1, 0, 0, 0),
             n @ (2 | 3) => (n, 0, 0, 0),
             n => (4, self.column, n, self.row),

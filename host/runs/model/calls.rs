@@ -1,8 +1,8 @@
 //! The calls of 01 on lent memory, each with its answer and the memory after it.
 
-use super::basics::{Refused, unless, word};
+use super::basics::{Refused, put_word, unless, word};
 use super::ranges::{Lengths, test_1, test_14};
-use super::state::{Column, State, decoded};
+use super::state::{Column, State, flag_and_word, held, test_coding, test_length};
 use super::world::{Entry, World};
 use puffwidget::{Memory, RowAnswer};
 
@@ -60,14 +60,20 @@ pub fn called(memory: &Memory, call: &Call) -> Result<(Answer, Memory), Refused>
             Ok((Answer::Done, Memory { state: state.coded(), books, slots: memory.slots.clone(), pool: memory.pool.clone() }))
         }
         Call::Limit(limit) => {
-            // "only the limit and its setter, .. work on the state alone and refuse nothing" but bytes that code no state
-            let state = State { limit: limit.map(|rows| rows as usize), ..decoded(&memory.state)? };
-            Ok((Answer::Done, Memory { state: state.coded(), ..memory.clone() }))
+            // "only the limit and its setter, .. work on the state alone and refuse nothing"; bytes that are not 304 are no state
+            test_length(&memory.state)?;
+            let mut state = memory.state.clone();
+            for (at, value) in [28, 32].into_iter().zip(flag_and_word(limit.map(|rows| rows as usize))) {
+                put_word(&mut state, at, value);
+            }
+            Ok((Answer::Done, Memory { state, ..memory.clone() }))
         }
         Call::Counts => Ok((Answer::Counts(counts(&memory.state)), memory.clone())),
         _ => {
-            let mut world = World::of(memory)?; // a copy
-            test_1(&world.state, Lengths::of(memory))?; // "Every call after set-up tests 1, then 14"
+            test_length(&memory.state)?; // "Every call after set-up tests 1, then 14"
+            let mut world = World::of(memory); // a copy
+            test_1(&world.state, Lengths::of(memory))?;
+            test_coding(&memory.state)?;
             test_14(&world)?;
             let answer = world.make(call)?;
             Ok((answer, world.memory()))
@@ -91,16 +97,14 @@ pub fn new_state(lent: Lengths, kinds: &[u8], wanted: [u32; 5]) -> Result<State,
     Ok(state)
 }
 
-/// The calls on the state alone; "of bytes that code no state, those of an empty one".
+/// The calls on the state alone, which "refuse nothing"; of bytes that are not 304, those of a state of zeros.
 pub fn counts(state: &[u8]) -> Counts {
-    match decoded(state) {
-        Ok(s) => Counts {
-            limit: s.limit.map(|limit| limit as u32),
-            buffered: s.buffered as u32,
-            completed: s.queued > 0,
-            empty: s.queued == 0 && s.buffered == 0,
-        },
-        Err(_) => Counts { limit: None, buffered: 0, completed: false, empty: true },
+    let s = held(if state.len() == 304 { state } else { &[0; 304] });
+    Counts {
+        limit: s.limit.map(|limit| limit as u32),
+        buffered: s.buffered as u32,
+        completed: s.queued > 0,
+        empty: s.queued == 0 && s.buffered == 0,
     }
 }
 

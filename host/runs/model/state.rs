@@ -29,27 +29,44 @@ pub struct State {
     pub column: Vec<Column>,
 }
 
-/// A flag and the word beside it: "a flag that is neither 0 nor 1, or a word beside a flag of 0 that is not zero" codes no state.
-fn flagged(flag: usize, value: usize) -> Result<Option<usize>, Refused> {
-    unless(flag <= 1, 14, "codes no state: a flag that is neither 0 nor 1")?;
-    unless(flag == 1 || value == 0, 14, "codes no state: a word beside a flag of 0 that is not zero")?;
-    Ok((flag == 1).then_some(value))
+/// What a flag and the word beside it hold: a flag that is not 0 is set.
+fn flagged(flag: usize, value: usize) -> Option<usize> {
+    (flag != 0).then_some(value)
 }
 
 /// A flag, and the word beside it.
-fn flag_and_word(value: Option<usize>) -> [usize; 2] {
+pub fn flag_and_word(value: Option<usize>) -> [usize; 2] {
     value.map_or([0, 0], |value| [1, value])
 }
 
-/// The state of its bytes: "State bytes of another length are refused with 1, bytes that code no state with 14".
-pub fn decoded(bytes: &[u8]) -> Result<State, Refused> {
-    unless(bytes.len() == 304, 1, "state bytes of another length")?;
+/// Where flags stand, in words: the limit's, and each column's.
+fn flags() -> impl Iterator<Item = usize> {
+    std::iter::once(7).chain((0..16).map(|c| 14 + 4 * c))
+}
+
+/// 14: "a flag that is neither 0 nor 1, or a word beside a flag of 0 that is not zero" codes no state.
+pub fn test_coding(bytes: &[u8]) -> Result<(), Refused> {
+    for i in flags() {
+        let (flag, value) = (word(bytes, 4 * i), word(bytes, 4 * i + 4));
+        unless(flag <= 1, 14, "codes no state: a flag that is neither 0 nor 1")?;
+        unless(flag == 1 || value == 0, 14, "codes no state: a word beside a flag of 0 that is not zero")?;
+    }
+    Ok(())
+}
+
+/// 1: "lent memory not of the set-up lengths".
+pub fn test_length(bytes: &[u8]) -> Result<(), Refused> {
+    unless(bytes.len() == 304, 1, "state bytes of another length")
+}
+
+/// The state that 304 bytes hold, whatever they are.
+pub fn held(bytes: &[u8]) -> State {
     let at = |i: usize| word(bytes, 4 * i);
     let mut column = Vec::new();
     for c in 0..16 {
-        column.push(Column { kind: at(12 + 4 * c), kept: at(13 + 4 * c), open: flagged(at(14 + 4 * c), at(15 + 4 * c))? });
+        column.push(Column { kind: at(12 + 4 * c), kept: at(13 + 4 * c), open: flagged(at(14 + 4 * c), at(15 + 4 * c)) });
     }
-    Ok(State {
+    State {
         target: at(0),
         rows: at(1),
         queue: at(2),
@@ -57,12 +74,12 @@ pub fn decoded(bytes: &[u8]) -> Result<State, Refused> {
         lists: at(4),
         numbers: at(5),
         pool: at(6),
-        limit: flagged(at(7), at(8))?,
+        limit: flagged(at(7), at(8)),
         place: at(9),
         queued: at(10),
         buffered: at(11),
         column,
-    })
+    }
 }
 
 impl State {

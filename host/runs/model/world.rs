@@ -1,7 +1,7 @@
 //! A world: the state, and slots, pool and books as bytes, read and written by docs/LAYOUT.md.
 
-use super::basics::{Refused, put_word, word};
-use super::state::{State, decoded};
+use super::basics::{put_word, word};
+use super::state::{State, held};
 use puffwidget::Memory;
 
 /// State, slots, pool and books.
@@ -14,7 +14,7 @@ pub struct World {
 }
 
 /// An entry of the books.
-#[derive(Clone, Copy, Default)]
+#[derive(Clone, Copy, Default, PartialEq, Eq)]
 pub struct Entry {
     pub start: usize,
     pub capacity: usize,
@@ -31,10 +31,9 @@ impl Entry {
 }
 
 impl World {
-    /// A copy of lent memory, its state decoded.
-    pub fn of(memory: &Memory) -> Result<World, Refused> {
-        let state = decoded(&memory.state)?;
-        Ok(World { state, slots: memory.slots.clone(), pool: memory.pool.clone(), books: memory.books.clone() })
+    /// A copy of lent memory, with the state that its 304 bytes hold.
+    pub fn of(memory: &Memory) -> World {
+        World { state: held(&memory.state), slots: memory.slots.clone(), pool: memory.pool.clone(), books: memory.books.clone() }
     }
 
     /// Its bytes.

@@ -4,17 +4,14 @@ use Rattle.decoding.specs.ReadLaws.{decoded-state, decoded-none, decoded
 use Rattle.decoding.proofs.decode.Statement.{statement}
 use Rattle.decoding.proofs.decode.Tie as tie
 
-is-coded-requires : tie.Need-is-coded-requires
-is-coded-requires c κs = search needs
-
 state-of-requires : tie.Need-state-of-requires
 state-of-requires c κs = search needs
 
+is-coded-requires : tie.Need-is-coded-requires
+is-coded-requires c κs = search needs
+
 zero-state-requires : tie.Need-zero-state-requires
 zero-state-requires c κs = search needs
-
-zero-state-requires-2 : tie.Need-zero-state-requires-2
-zero-state-requires-2 c κs = search needs
 
 returns : tie.Need-returns
 returns c = search (decoded-state, needs)
@@ -29,10 +26,9 @@ pub decode-spec : {M : Type 1} → statement M
 decode-spec =
     tie.close
     (tie.spec
-    is-coded-requires
     state-of-requires
+    is-coded-requires
     zero-state-requires
-    zero-state-requires-2
     returns
     returns-2
     returns-3)

@@ -70,8 +70,8 @@ state-known s vs p =
 put-set-up-requires : tie.Need-put-set-up-requires
 put-set-up-requires c κs = search needs
 
-put-limit-requires : tie.Need-put-limit-requires
-put-limit-requires c κs = search needs
+set-limit-requires : tie.Need-set-limit-requires
+set-limit-requires c κs = search needs
 
 put-counts-requires : tie.Need-put-counts-requires
 put-counts-requires c κs = search needs
@@ -90,7 +90,7 @@ encode-spec =
     tie.close
     (tie.spec
     put-set-up-requires
-    put-limit-requires
+    set-limit-requires
     put-counts-requires
     put-columns-requires
     same-length
