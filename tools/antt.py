@@ -31,6 +31,10 @@ class Item:
     def lines(self):
         return len([t for t in self.text if t.strip() and not t.strip().startswith('--')])
 
+    def remarks(self):
+        """Comment lines above it and within."""
+        return self.comments + len([t for t in self.text if t.strip().startswith('--')])
+
     def code(self):
         """Its text without comments and without the proof's `unfolding`."""
         return [re.sub(r'(^|\s)--.*', '', t) for t in self.text if not t.strip().startswith('unfolding ')]
@@ -112,7 +116,7 @@ class Declared:
 
     def __init__(self, crate, name, text, line):
         self.crate, self.name, self.text, self.line, self.kind = crate, name, text, line, 'struct'
-        self.file, self.comments = (crate, 'src'), 0
+        self.file = (crate, 'src')
         self.fields = re.findall(r'^\s*pub (\w+):', text, re.M)
         self.cases = re.findall(r'^\s{4}(\w+)', text, re.M) if ' enum ' in text.split('{')[0] else []
 
@@ -122,6 +126,9 @@ class Declared:
 
     def lines(self):
         return len([t for t in self.text.split('\n') if t.strip() and not t.strip().startswith('//')])
+
+    def remarks(self):
+        return len([t for t in self.text.split('\n') if t.strip().startswith('//')])
 
     def names(self):
         body = re.sub(r'//.*', '', self.text)

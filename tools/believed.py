@@ -21,8 +21,8 @@ BEGIN = '<!-- made by tools/believed.py: do not edit by hand -->'
 END = '<!-- end of what tools/believed.py made -->'
 # the call by value behind `pw_NAME` is NAME, but for this one
 BY_VALUE = {'new': 'new_coalescer'}
-# the setter on bytes puts the limit's words itself: the call by value stands beside it
-BESIDE = {'set_biggest_coalesce_batch_size': {'queries'}}
+# what such a call takes
+STATE = {'BatchCoalescer', 'Wanted'}
 ORDER = ('history', 'History', 'in-order')
 WORKED = ('worked', 'Worked', 'worked')
 # premises that every world of a history meets, by a theorem: what they say need not be believed
@@ -88,16 +88,16 @@ def field_names(repository, field):
 # ---- the statements
 
 def exported(repository):
-    """The C layer: each exported function, and the call by value that its file makes."""
-    layer = [(source, function) for source in repository.sources.values() for function in source.functions.values() if function.exported]
+    """The C layer: each exported function; and the call of the same name that takes the state by value, or set-up's wishes."""
+    functions = [(source, function) for source in repository.sources.values() for function in source.functions.values()]
+    layer = [(source, function) for source, function in functions if function.exported]
     calls = []
     for source, function in layer:
         name = function.name.removeprefix('pw_')
         name = BY_VALUE.get(name, name)
-        crates = set(re.findall(rf'\b(\w+)::{name}\(', source.text)) or BESIDE.get(name, set())
-        found = [(other, other.functions[name]) for key, other in repository.sources.items() if key[0] in crates and name in other.functions]
+        found = [(other, call) for other, call in functions if call.name == name and call.types & STATE]
         if len(found) != 1:
-            raise antt.Unresolved(f'{source.path}: {function.name} calls {len(found)} functions {name}')
+            raise antt.Unresolved(f'{source.path}: {len(found)} functions {name} by value stand behind {function.name}')
         calls += found
     marked = sum(source.text.count('#[no_mangle]') for source in repository.sources.values())
     if not layer or len(layer) != marked:
@@ -189,7 +189,7 @@ def structs(seen):
 
 
 def counts(items):
-    return sum(i.lines() for i in items), sum(i.comments for i in items), len({i.file for i in items})
+    return sum(i.lines() for i in items), sum(i.remarks() for i in items), len({i.file for i in items})
 
 
 def reading_order(repository, items):

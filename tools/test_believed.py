@@ -13,7 +13,7 @@ FILES = {
     'crates.txt': 'low:\nhigh: low\nhistory: low high\nworked: low\n',
     'docs/THEOREMS.md': '| d | t | f | w |\n|---|---|---|---|\n| 3 | `told` | history/specs/History | |\n| | the field `fact` of `Kept` | high/specs/High | |\n',
     'docs/DEFINITIONS.md': f'words\n{believed.BEGIN}\n{believed.END}\nmore\n',
-    'crates/low/src/lib.rt': 'pub struct Inner(pub u32);\n\npub struct Outer {\n    pub inner: Inner,\n}\n\npub enum Way {\n    One,\n    Two(u32),\n}\n',
+    'crates/low/src/lib.rt': 'pub struct Inner(pub u32);\n\npub struct Outer {\n    pub inner: Inner,\n}\n\npub struct Wanted(pub u32);\n\npub enum Way {\n    One,\n    Two(u32),\n}\n',
     'crates/low/specs/Low.antt': '''-- low
 use Prim.Native.Nat.{ℕ, zero, suc, _+_}
 use Rattle.low.specs.declared.Outer.{Outer}
@@ -58,8 +58,9 @@ unused = 0
     'crates/high/src/lib.rt': '''ghost use mathlib.Core.Path.{_≡_};
 ghost use Rattle.high.specs.High.{promised};
 use low::Outer;
+use low::Wanted;
 
-pub fn thing(x: Outer) -> u32
+pub fn thing(x: Outer, y: Wanted) -> u32
     ensures { λ r. ⌜ r ≡ promised ⌝ }
 {
     0
@@ -135,7 +136,7 @@ class Planted(unittest.TestCase):
             believed.made(self.repository(**changes))
 
     def test_follows_every_kind_of_name(self):
-        wanted = {'promised', 'helped', 'deepest', 'either', 'number', 'Answer', 'kept', 'byWay', 'Way', 'Outer', 'Inner', 'Pair'}
+        wanted = {'promised', 'helped', 'deepest', 'either', 'number', 'Answer', 'kept', 'byWay', 'Way', 'Outer', 'Inner', 'Pair', 'Wanted'}
         self.assertEqual(self.names(self.repository()), wanted)
 
     def test_a_variable_of_one_clause_is_a_name_in_another(self):
@@ -176,8 +177,11 @@ class Planted(unittest.TestCase):
     def test_an_exported_function_without_a_promise(self):
         self.refused('has no `ensures`', crates_capi_src_lib_rt=('    ensures { λ r. ⌜ r ≡ promised ⌝ }\n', ''))
 
-    def test_an_exported_function_that_makes_no_call(self):
-        self.refused('calls 0 functions thing', crates_capi_src_lib_rt=('high::thing(x)', '0'))
+    def test_an_exported_function_without_a_call_by_value(self):
+        self.refused('0 functions other by value', crates_capi_src_lib_rt=('pw_thing', 'pw_other'))
+
+    def test_an_exported_function_that_cannot_be_read(self):
+        self.refused('2 functions are exported, 1 of them', crates_capi_src_lib_rt=('#[no_mangle]\n', '#[no_mangle]\n\n#[no_mangle]\n'))
 
     def test_a_theorem_that_is_not_there(self):
         self.refused('lost is in none of', docs_THEOREMS_md=('`told`', '`told`, `lost`'))

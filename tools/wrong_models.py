@@ -74,7 +74,7 @@ def said(program, which):
     held = ROOT / 'crates' / which
     arguments = ['--sizes', str(held / 'stdout')] if which == 'block_edges' else [str(held / 'stdin')]
     try:
-        run = subprocess.run([str(program), *arguments], capture_output=True, timeout=60)
+        run = subprocess.run([str(program), *arguments], capture_output=True, timeout=20)
     except subprocess.TimeoutExpired:
         return None
     return run.stdout if run.returncode == 0 else None
