@@ -206,7 +206,9 @@ module _ {w : World} (g : Between w) where
 -- the rows and batches that the answers tell of are those of the step
 sent-accepted : (m : Memory) (c : Call) {r : ℕ} {m′ : Memory} {w : World} → Between w → HoldsWorld m w → Sent m c r m′ → acceptedBy m c r ≡ step w c .accepted
 unfolding step
-sent-accepted m (push b bytes) g h s = rw (sent-answers m (push b bytes) g h s, h .is)
+sent-accepted m (push b bytes) {w = w} g h s =
+    ap (λ (n : ℕ). ifDone n (batchRows (worldIn m) b)) (sent-answers m (push b bytes) g h s)
+    ∙ ap (λ (v : World). ifDone (pushCall w b .number) (batchRows v b)) (h .is)
 sent-accepted m finish g h s = refl
 sent-accepted m drop g h s = refl
 sent-accepted m (register bytes capacity) g h s = refl
@@ -218,7 +220,11 @@ sent-taken : (m : Memory) (c : Call) {r : ℕ} {m′ : Memory} {w : World} → B
 unfolding step
 sent-taken m (push b bytes) g h s = refl
 sent-taken m finish g h s = refl
-sent-taken m drop g h s = rw (drop-answer g h s .0, drop-answer g h s .1, drop-few g .1, h .is)
+sent-taken m drop {r = r} {w = w} g h s =
+    ap (λ (n : ℕ). front (worldIn m) n (eqb (lower r) 0)) (drop-answer g h s .0)
+    ∙ ap (λ (v : ℕ). front (worldIn m) (dropCall w .number) (eqb v 0)) (drop-answer g h s .1)
+    ∙ ap (front (worldIn m) (dropCall w .number)) (drop-few g .1)
+    ∙ ap (λ (v : World). front v (dropCall w .number) (eqb (w .state .queued) 0)) (h .is)
 sent-taken m (register bytes capacity) g h s = refl
 sent-taken m (letGo k) g h s = refl
 sent-taken m (limit l) g h s = refl
