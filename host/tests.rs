@@ -56,6 +56,36 @@ fn a_refused_push_changes_nothing() {
     assert!(*coalescer.memory() == before);
 }
 
+/// No byte is damaged: only the state is an older one of the same court, whose open block was freed since.
+#[test]
+fn a_push_with_an_older_state_is_refused_and_changes_nothing() {
+    let text = [b'A'; 5_000];
+    let set_up = SetUp { rows: 8, queue: 2, lists: 8, numbers: 8, pool: 18_293, ..SetUp::new(&[Kind::Utf8View; 2], 8) };
+    let mut coalescer = BatchCoalescer::new(&set_up).unwrap();
+    let held = [coalescer.register_buffer(&text, 10_001).unwrap()];
+    let (long, short) = (long_view(&text, 0, 0, 5_000), inline_view(b"a"));
+    coalescer.push_batch(&Batch::new(1, &[column(Kind::Utf8View, &short, &[]), column(Kind::Utf8View, &long, &held)])).unwrap();
+    let older = coalescer.memory().state.clone(); // its second column has a block open
+    coalescer.finish_buffered_batch().unwrap();
+    coalescer.next_completed_batch().unwrap();
+    coalescer.register_buffer(&[], 0).unwrap(); // takes the number of the block that is free now
+    coalescer.register_buffer(&[], 0).unwrap();
+    coalescer.let_go(BufferNumber(1)).unwrap();
+    let names = [b"Asha".as_slice(), b"Bhavani", b"Chitra"];
+    let views = names.map(inline_view).concat();
+    coalescer.push_batch(&Batch::new(3, &[column(Kind::Utf8View, &views, &[]), column(Kind::Utf8View, &views, &[])])).unwrap();
+    coalescer.finish_buffered_batch().unwrap();
+    let mut memory = Memory { state: older, ..coalescer.memory().clone() };
+    let before = memory.clone();
+    let batch = Batch::new(1, &[column(Kind::Utf8View, &long, &held), column(Kind::Utf8View, &long, &held)]);
+    assert_eq!(memory.push_batch(&batch.records, &batch.body, 1), Err(14));
+    assert!(memory == before);
+    let taken = coalescer.next_completed_batch().unwrap().unwrap();
+    for column in &taken.columns {
+        assert!(column.iter().zip(names).all(|(row, name)| row.as_deref() == Some(name)));
+    }
+}
+
 #[test]
 fn set_up_outside_its_bounds_is_refused() {
     for (target, queue) in [(0, 8), (65_537, 8), (4, 0), (4, 1_025)] {

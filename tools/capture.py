@@ -7,9 +7,9 @@ NONE = 4294967295
 
 
 def column_bytes(kind, r, b):
-    """The bytes of a column in a slot (docs/LAYOUT.md), and of its list."""
+    """The bytes of a column in a slot (docs/LAYOUT.md), and of its list; of a kind outside the table, with a width of 1."""
     listed = 4 * b if kind in (UTF8, BINARY) else 0
-    return r * WIDTH[kind] + (r + 7) // 8 + listed, listed
+    return r * WIDTH.get(kind, 1) + (r + 7) // 8 + listed, listed
 
 
 class Capture:
@@ -25,16 +25,19 @@ class Capture:
 
     def set_up(self, t=4, r=None, q=2, kinds=(UTF8,), b=4, n=8, p=32768, lent=(0, 0, 0)):
         r = t if r is None else r
-        self.kinds, self.sizes, self.lengths = kinds, [], (0, p, 0)
-        if all(k in WIDTH for k in kinds):
-            self.sizes = [column_bytes(k, r, b) for k in kinds]
-            self.lengths = ((q + 1) * sum(size for size, _ in self.sizes), p, 4 + 20 * n + 4 * (1 + len(kinds)) * (q + 1))
+        self.kinds, self.sizes = kinds, [column_bytes(k, r, b) for k in kinds]
+        self.rows = r
+        self.lengths = ((q + 1) * sum(size for size, _ in self.sizes), p, 4 + 20 * n + 4 * (1 + len(kinds)) * (q + 1))
         slots, pool, books = self.lengths
         self.call(1, t, r, q, b, n, slots + lent[0], books + lent[2], pool + lent[1], first=struct.pack('<%dI' % len(kinds), *kinds))
 
     def list_at(self, slot, c):
         """Where the list of a column of a slot stands."""
         return slot * sum(size for size, _ in self.sizes) + sum(size for size, _ in self.sizes[:c + 1]) - self.sizes[c][1]
+
+    def bitmap_at(self, slot, c):
+        """Where the bitmap of a column of a slot stands."""
+        return self.list_at(slot, c) - (self.rows + 7) // 8
 
     def lend(self, slots=0, pool=0, books=0):
         s, p, b = self.lengths
@@ -78,6 +81,9 @@ class Capture:
 
     def poke(self, memory, at, value):
         self.call(12, memory, at, value)
+
+    def show(self, memory, at, length):
+        self.call(14, memory, at, length)
 
 
 def inline(text):

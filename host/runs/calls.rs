@@ -5,10 +5,6 @@ use puffwidget::layout::word;
 use runs::model::{Answer, CLAUSES, Call, Counts, Refused, called, counts};
 use std::collections::BTreeMap;
 
-/// The damages that may make a state inside the ranges of 14 that no history leaves: "demand 1's memory safety only" (01). Only these may
-/// meet an exception.
-const ODD: [&str; 3] = ["a word within its range", "random words", "two faults at once"];
-
 /// The calls' names, by `place`.
 const NAMES: [&str; 10] = ["set-up", "push", "finish", "drop", "register", "let go", "read row", "read buffer", "limit", "counts"];
 
@@ -62,37 +58,6 @@ fn counted(memory: &Memory) -> Counts {
     Counts { limit, buffered, completed: memory.has_completed_batch(), empty: memory.is_empty() }
 }
 
-/// docs/EXCEPTIONS.md, of a refused call: a free entry that is not zero, which no history leaves, is zeroed where a trial took its number.
-/// Only a byte of such an entry may differ, and only by being zero.
-fn only_free_zeroed(before: &Memory, after: &Memory) -> bool {
-    let but_books = Memory { books: before.books.clone(), ..after.clone() };
-    if but_books != *before || before.books.len() != after.books.len() {
-        return false;
-    }
-    let (used, numbers) = (word(&before.books, 0) as usize, word(&before.state, 20) as usize);
-    let live = |n: usize| n < used && (word(&before.books, 4 + 20 * n + 12) != 0 || word(&before.books, 4 + 20 * n + 16) != 0);
-    let free = |at: usize| (4..4 + 20 * numbers).contains(&at) && !live((at - 4) / 20);
-    (0..before.books.len()).all(|at| before.books[at] == after.books[at] || (free(at) && after.books[at] == 0))
-}
-
-/// A push that passed all checks, with an open block that is a free entry or that of two columns: no history leaves either. The trial may
-/// take the free entry's number and zero it, and does not see one column fill another's block, so that the push may stop half way. 01
-/// promises such a state memory safety only: nothing is compared.
-fn safety_only(before: &Memory, call: &Call, wanted: Option<Refused>) -> bool {
-    if !matches!(call, Call::Push { rows: 1.., .. }) || !matches!(wanted.map_or(0, |refused| refused.number), 0 | 9..=12) {
-        return false;
-    }
-    let state = |i: usize| word(&before.state, 4 * i);
-    let columns = (0..state(3) as usize).filter(|c| state(12 + 4 * c) >= 18 && state(14 + 4 * c) == 1);
-    let mut open: Vec<usize> = columns.map(|c| state(15 + 4 * c) as usize).collect();
-    let held_or_listed = |n: usize| word(&before.books, 4 + 20 * n + 12) != 0 || word(&before.books, 4 + 20 * n + 16) != 0;
-    let all = open.len();
-    open.retain(|n| held_or_listed(*n));
-    open.sort();
-    open.dedup();
-    open.len() < all
-}
-
 /// The first byte of each memory that differs.
 fn first_differences(port: &Memory, model: &Memory) -> String {
     let pairs = [
@@ -120,10 +85,6 @@ pub struct Tally {
     pub foretold: u64,
     /// calls with two faults at once, by their numbers, 0 where one is not foretold; the first must name it
     pub pairs: BTreeMap<[u32; 2], u64>,
-    /// refused calls after which a free entry that was not zero was zeroed
-    pub excepted: u64,
-    /// pushes with an open block that is a free entry or two columns', which are only made
-    pub safety_only: u64,
     /// by place damaged
     pub places: BTreeMap<&'static str, u64>,
     /// by 01's words
@@ -142,17 +103,10 @@ impl Tally {
         };
         let counts_same = counted(memory) == counts(&memory.state);
         let answer = made(call, memory);
-        let odd = ODD.contains(&why);
-        if odd && safety_only(&before, call, refused) {
-            self.safety_only += 1;
-            return answer;
-        }
         self.count(call, refused, foretold, why);
         let same = *memory == after;
-        let excepted = !same && odd && refused.is_some() && only_free_zeroed(&before, memory);
-        self.excepted += excepted as u64;
         let as_foretold = foretold.is_none_or(|number| number == answer.as_ref().err().copied().unwrap_or(0));
-        if answer != wanted || !as_foretold || !counts_same || !(same || excepted) {
+        if answer != wanted || !as_foretold || !counts_same || !same {
             println!("DIFFERENT in the history of seed {}; replay: damaged one {}", self.seed, self.seed);
             println!("{why}: the port answers {answer:?}, the model {wanted:?} ({refused:?}), the damage foretells {foretold:?}");
             println!("counts as the model's: {counts_same}; {}", first_differences(memory, &after));
@@ -196,8 +150,6 @@ impl Tally {
         let pairs = self.pairs.iter().filter(|(numbers, _)| !numbers.contains(&0));
         let pairs: Vec<String> = pairs.map(|([first, second], count)| format!("{first}+{second}: {count}")).collect();
         println!("two faults at once, the first named: {}", pairs.join(", "));
-        println!("{} refused calls zeroed a free entry that was not zero (docs/EXCEPTIONS.md)", self.excepted);
-        println!("{} pushes with an open block that is a free entry or two columns', not compared", self.safety_only);
     }
 
     /// Every number 1 to 14 came. 8 ("a copied row would start past 4,294,967,295") can't: a block lies in the pool, which has at most

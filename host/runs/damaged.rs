@@ -1,8 +1,8 @@
 //! Damaged calls: histories from a seed, at each step valid calls and damaged ones, each compared with the plain model of 01.
 //!
-//! `damaged [CALLS [SEED]]` runs until so many calls were compared, 200,000 where nothing is said; `damaged one SEED` replays one
-//! history. Compared is the answer or the number, and every byte of state, slots, pool and books after the call. Damaged calls work on
-//! clones.
+//! `damaged [CALLS [SEED]]` runs until so many calls were compared, 200,000 where nothing is said; `damaged stale [CALLS [SEED]]` until so
+//! many were made with an older state of the same history; `damaged one SEED` replays one history. Compared is the answer or the number, and
+//! every byte of state, slots, pool and books after the call, refused or not. Damaged calls work on clones.
 
 mod calls;
 mod damage;
@@ -14,6 +14,11 @@ use puffwidget::Memory;
 use runs::model::Call;
 use runs::rng::Rng;
 use world::World;
+
+const STALE: &str = "an older state over the memory of now";
+
+/// How many calls earlier a state may have been kept.
+const KEPT: usize = 20;
 
 /// A call of any sort on memory that will be damaged; set-up is apart.
 fn any_call(rng: &mut Rng, world: &World, push: &Call) -> Call {
@@ -52,6 +57,14 @@ fn damaged_memory(rng: &mut Rng, world: &World, push: &Call, tally: &mut Tally) 
     make(world, call, &damage, tally);
 }
 
+/// No byte is damaged: the state is one that this very history left some calls earlier, over the memory of now.
+fn stale(rng: &mut Rng, world: &World, earlier: &[Vec<u8>], push: &Call, tally: &mut Tally) {
+    let mut memory: Memory = world.memory.clone();
+    memory.state = earlier[rng.below(earlier.len())].clone();
+    let call = any_call(rng, world, push);
+    let _ = tally.check(&mut memory, &call, None, STALE);
+}
+
 /// A batch damaged, then pushed.
 fn damaged_batch(rng: &mut Rng, world: &World, push: &Call, tally: &mut Tally) {
     let damage = found(rng, |rng| damage::batch::damage(rng, &world.memory, push));
@@ -87,11 +100,12 @@ fn damaged(rng: &mut Rng, world: &World, push: &Call, tally: &mut Tally) {
     }
 }
 
-/// A history from its seed.
-fn history(seed: u64, tally: &mut Tally) {
+/// A history from its seed, with eight calls on clones behind each of its own.
+fn history(seed: u64, only_stale: bool, tally: &mut Tally) {
     let mut rng = Rng::new(seed);
     tally.seed = seed;
     let mut world = World::new(&mut rng, tally);
+    let mut earlier: Vec<Vec<u8>> = vec![world.memory.state.clone()];
     for _ in 0..rng.within(6, 24) {
         let call = world.call(&mut rng, tally);
         let _ = world.make(&call, tally);
@@ -100,8 +114,13 @@ fn history(seed: u64, tally: &mut Tally) {
         }
         let push = world.push(&mut rng, tally);
         for _ in 0..8 {
-            damaged(&mut rng, &world, &push, tally);
+            match only_stale || rng.one_in(8) {
+                true => stale(&mut rng, &world, &earlier, &push, tally),
+                false => damaged(&mut rng, &world, &push, tally),
+            }
         }
+        earlier.insert(0, world.memory.state.clone());
+        earlier.truncate(KEPT);
     }
     tally.histories += 1;
 }
@@ -111,16 +130,18 @@ fn main() {
     let number = |i: usize, other: u64| arguments.get(i).map_or(other, |text| text.parse().expect("a number"));
     let mut tally = Tally::default();
     if arguments.first().is_some_and(|word| word == "one") {
-        history(number(1, 0), &mut tally);
+        history(number(1, 0), arguments.get(2).is_some_and(|word| word == "stale"), &mut tally);
         println!("one history: {} calls, all as the model says", tally.calls);
         return;
     }
-    let (calls, first) = (number(0, 200_000), number(1, 1));
+    let only_stale = arguments.first().is_some_and(|word| word == "stale");
+    let (calls, first) = (number(only_stale as usize, 200_000), number(1 + only_stale as usize, 1));
     let started = std::time::Instant::now();
     damage::calls::largest_pool(&mut tally);
     let mut seed = first * 1_000_000_000;
-    while tally.calls < calls {
-        let outcome = std::panic::catch_unwind(std::panic::AssertUnwindSafe(|| history(seed, &mut tally)));
+    let made = |tally: &Tally| if only_stale { tally.places.get(STALE).copied().unwrap_or(0) } else { tally.calls };
+    while made(&tally) < calls {
+        let outcome = std::panic::catch_unwind(std::panic::AssertUnwindSafe(|| history(seed, only_stale, &mut tally)));
         if outcome.is_err() {
             println!("STOPPED in the history of seed {seed}; replay: damaged one {seed}");
             std::process::exit(1);
@@ -131,8 +152,10 @@ fn main() {
         "seed {first}: {} histories, {} calls compared, each answer and every byte after it as the model says",
         tally.histories, tally.calls
     );
-    println!("refused calls changed no byte; the exceptions are counted below");
+    println!("refused calls changed no byte; {} calls were made with an older state", tally.places.get(STALE).copied().unwrap_or(0));
     tally.print();
-    tally.assert_all_came();
+    if !only_stale {
+        tally.assert_all_came();
+    }
     println!("{:.1} s", started.elapsed().as_secs_f64());
 }

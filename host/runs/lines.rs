@@ -6,7 +6,8 @@ pub fn row(cells: &[Option<Vec<u8>>]) -> String {
     format!("  {}", cells.join(" "))
 }
 
-fn cell(cell: &Option<Vec<u8>>) -> String {
+/// A cell, or bytes of a memory.
+pub fn cell(cell: &Option<Vec<u8>>) -> String {
     match cell {
         None => "-".to_string(),
         Some(bytes) if bytes.is_empty() => ".".to_string(),

@@ -31,11 +31,11 @@ unfolding usedOf
 used-room′ s n e l p h = omega arith
 
 -- a number in use, and one that is not
-free-below : (s : List ℕ) (i : ℕ) → i < usedOf s → isFreeAt s i ≡ isFree (entryOf s i)
+pub free-below : (s : List ℕ) (i : ℕ) → i < usedOf s → isFreeAt s i ≡ isFree (entryOf s i)
 unfolding isFreeAt
 free-below s i h = rw (lt-ltb i (usedOf s) h)
 
-free-beyond : (s : List ℕ) (i : ℕ) → usedOf s ≤ i → isFreeAt s i ≡ true
+pub free-beyond : (s : List ℕ) (i : ℕ) → usedOf s ≤ i → isFreeAt s i ≡ true
 unfolding isFreeAt
 free-beyond s i h = rw (le-ltb i (usedOf s) h)
 

@@ -2,6 +2,7 @@
 use Prim.Native.Nat.{ℕ}
 use mathlib.Core.Path.{_≡_, refl, sym, _∙_, ap}
 use mathlib.Core.List.{List, []}
+use native.Mathlib.Omega.{arith}
 use borrow.Author.Tests.{ne-eqb}
 use Rattle.pool.specs.declared.Registered.{Registered}
 use Rattle.pool.specs.Register.{registered, letGo}
@@ -11,7 +12,8 @@ use Rattle.state.specs.declared.BatchCoalescer.{BatchCoalescer}
 use Rattle.state.specs.World.{world}
 use Rattle.rules.specs.Ranges.{tested}
 use Rattle.rules.specs.Calls.{bufferNumberCall, bufferCall, registerCall, letGoCall}
-use Rattle.buffers.specs.Buffers.{RegistersCall, LetsGoCall}
+use Rattle.pool_reads.specs.Place.{partStart, PartAt}
+use Rattle.buffers.specs.Buffers.{RegistersCall, LetsGoCall, bufferStart}
 
 -- n is what the tests answered
 module _ (s : BatchCoalescer) (slots pool books : List ℕ) {n : ℕ} (e : n ≡ tested (world s slots pool books)) where
@@ -30,6 +32,15 @@ module _ (s : BatchCoalescer) (slots pool books : List ℕ) {n : ℕ} (e : n ≡
   pub part-read : (i : ℕ) {r : List ℕ} → n ≡ 0 → r ≡ partOf books pool i → r ≡ bufferCall (world s slots pool books) i
   unfolding bufferCall
   part-read i z p = rw (← e, z) p
+
+  -- where it lies
+  pub place-refused : (i : ℕ) (at : ℕ × ℕ) → (n ≡ 0 → ⊥) → PartAt at at (bufferStart (world s slots pool books) i)
+  unfolding bufferStart
+  place-refused i at h = rw (← e, ne-eqb n 0 h) (record { block = refl; offset = omega arith })
+
+  pub place-read : (i : ℕ) {at r : ℕ × ℕ} → n ≡ 0 → PartAt at r (partStart books pool i) → PartAt at r (bufferStart (world s slots pool books) i)
+  unfolding bufferStart
+  place-read i z p = rw (← e, z) p
 
   pub register-refused : (bytes : List ℕ) (capacity : ℕ) → (n ≡ 0 → ⊥) → RegistersCall (registerCall (world s slots pool books) bytes capacity) pool books (Registered.Refused n)
   unfolding registerCall

@@ -2,7 +2,8 @@
 ghost use mathlib.Core.Path.{_≡_};
 ghost use Rattle.state.specs.World.{world};
 ghost use Rattle.rules.specs.Calls.{registerCall, letGoCall, bufferNumberCall, bufferCall};
-ghost use Rattle.buffers.specs.Buffers.{RegistersCall, LetsGoCall};
+ghost use Rattle.pool_reads.specs.Place.{PartAt};
+ghost use Rattle.buffers.specs.Buffers.{RegistersCall, LetsGoCall, bufferStart};
 use counts::BufferNumber;
 use counts::ByteCount;
 use pool::Registered;
@@ -72,6 +73,7 @@ pub fn read_buffer<'a>(
     buffer: BufferNumber,
 ) -> &'a [u8]
     ensures { λ r. ⌜ now r ≡ bufferCall (world s (now (slots .entry)) (now (pool .entry)) (now (books .entry))) (buffer .0) ⌝ }
+    ensures { λ r. ⌜ PartAt (pool .entry .ptr) (r .ptr) (bufferStart (world s (now (slots .entry)) (now (pool .entry)) (now (books .entry))) (buffer .0)) ⌝ }
 {
     if ranges::tested(s, slots, pool, books) == 0 {
         pool_reads::buffer_part(books, pool, buffer)

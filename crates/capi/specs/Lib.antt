@@ -2,5 +2,4 @@
 pub mod Api
 pub mod ApiLaws
 pub mod NewLaws
-pub mod HandsOn
 pub mod QuietLaws

@@ -1,8 +1,7 @@
 // The C layer, batches in and out: push, finish, drop. docs/HOST.md has each signature; capi/specs/Api.antt says what each answers and leaves, on any bytes.
 ghost use mathlib.Core.Path.{_≡_};
 ghost use Rattle.rules.specs.Batch.{batch};
-ghost use Rattle.capi.specs.Api.{memory, said, number, both, finishing, dropping, called};
-ghost use Rattle.capi.specs.HandsOn.{HandsOn};
+ghost use Rattle.capi.specs.Api.{memory, said, number, both, pushing, finishing, dropping, called};
 use counts::RowCount;
 
 // push_batch: 0, or the number of the refusal and nothing changed.
@@ -16,8 +15,8 @@ pub extern "C" fn pw_push_batch(
     body: &[u8],
     rows: u32,
 ) -> u32
-    ensures { λ r. ⌜ HandsOn (memory (now (state .entry)) (now (slots .entry)) (now (pool .entry)) (now (books .entry))) (batch rows (now (records .entry)) (now (body .entry))) r
-        (memory (now (state .exit)) (now (slots .exit)) (now (pool .exit)) (now (books .exit))) ⌝ }
+    ensures { λ r. ⌜ said r (memory (now (state .exit)) (now (slots .exit)) (now (pool .exit)) (now (books .exit)))
+        ≡ called number (pushing (batch rows (now (records .entry)) (now (body .entry)))) (memory (now (state .entry)) (now (slots .entry)) (now (pool .entry)) (now (books .entry))) ⌝ }
 {
     let coded = decoding::decode(state);
     if coded.number == 0 {

@@ -1,10 +1,7 @@
 -- What the tests of a push give its steps: a law for each exit.
 use Prim.Native.Nat.{ℕ}
-use mathlib.Core.Path.{_≡_, refl, sym, _∙_, ap}
+use mathlib.Core.Path.{_≡_, refl, sym, _∙_}
 use mathlib.Core.List.{List, []}
-use mathlib.Core.Option.{some}
-use native.Mathlib.Omega.{arith}
-use Rattle.rules.specs.declared.Step.{Step}
 use Rattle.columns.specs.Pushing.{Pushing}
 use Rattle.push_safety.specs.Run.{Readable}
 use Rattle.push_safety.specs.TestedLaws.{tested-run}
@@ -18,13 +15,12 @@ use Rattle.rules.specs.Ranges.{tested}
 use Rattle.trial.specs.UnmarkedLaws.{tested-unmarked}
 use Rattle.routes.specs.declared.Sources.{Sources}
 use Rattle.routes.specs.Sourced.{Sourced}
-use Rattle.trial.specs.Trial.{Restored}
-use Rattle.trial.specs.RestoredLaws.{restored-pushing, restored-sourced}
+use Rattle.trial_truth.specs.OwnLaws.{tested-own}
 use Rattle.judging.specs.declared.Verdict.{Verdict}
-use Rattle.judging.specs.Judging.{verdictOf, Judges}
-use Rattle.judging.specs.JudgeLaws.{turn, verdict-go}
+use Rattle.judging.specs.Judging.{Judges}
+use Rattle.judging.specs.JudgeLaws.{verdict-go}
 use Rattle.buffered.specs.RunningLaws.{running}
-use Rattle.coalesce.specs.Push.{Ready, Judged}
+use Rattle.coalesce.specs.Push.{Ready}
 
 -- ---- slots and pool are read for their lengths only
 
@@ -56,43 +52,15 @@ ready {s} {slots} {pool} {books} {b} j g =
             some = x .some;
           };
       unmarked = tested-unmarked (world s slots pool books) z;
+      own = tested-own (world s slots pool books) z;
       slots-are = says-slots s slots pool books (sym z) refl;
       pool-is = says-pool s slots pool books (sym z) refl;
     }
 
--- what the steps ask, after the trial: its books hold what those before it did
-module _ {s : BatchCoalescer} {slots pool books books′ : List ℕ} {b : Batch} (a : Ready s slots pool books b) (r : Restored books books′ (s .numbers)) where
+-- what the steps ask, after the trial: its books are those before it
+module _ {s : BatchCoalescer} {slots pool books books′ : List ℕ} {b : Batch} (a : Ready s slots pool books b) (r : books′ ≡ books) where
   pub tried-pushing : Pushing s books′ b
-  tried-pushing = restored-pushing (a .pushing) r
+  tried-pushing = rw r (a .pushing)
 
   pub tried-sourced : {x : Sources} → Sourced x (world s [] [] books) b → Sourced x (world s [] [] books′) b
-  tried-sourced q = restored-sourced (a .pushing) r q
-
--- ---- the exits of push_batch: v is what judge answered
-
-module _ {s : BatchCoalescer} {slots pool books : List ℕ} {b : Batch} {v : Verdict} (j : Judges s slots pool books b v) where
-  e : v ≡ verdictOf (world s slots pool books) b
-  e = j .verdict-is
-
-  pub judged-go : {r : Step} {slots′ pool′ books′ : List ℕ} → v ≡ Verdict.Go → Judged (verdictOf (world s slots pool books) b) (world s slots pool books) r slots′ pool′ books′
-  judged-go g =
-      record {
-        nothing = λ x. let q : _≡_ {A = ℕ} 0 1 = ap turn (sym g ∙ e ∙ x) in absurd (omega arith);
-        refused = λ n x. let q : _≡_ {A = ℕ} 0 2 = ap turn (sym g ∙ e ∙ x) in absurd (omega arith);
-      }
-
-  pub judged-nothing : v ≡ Verdict.Nothing → Judged (verdictOf (world s slots pool books) b) (world s slots pool books) (record { state = s; number = 0 }) slots pool books
-  judged-nothing g =
-      record {
-        nothing = λ x. record { number-is = refl; world-is = refl };
-        refused = λ n x. let q : _≡_ {A = ℕ} 1 2 = ap turn (sym g ∙ e ∙ x) in absurd (omega arith);
-      }
-
-  pub judged-refused : {n : ℕ} → v ≡ Verdict.Refused n → Judged (verdictOf (world s slots pool books) b) (world s slots pool books) (record { state = s; number = n }) slots pool books
-  judged-refused {n} g =
-      record {
-        nothing = λ x. let q : _≡_ {A = ℕ} 2 1 = ap turn (sym g ∙ e ∙ x) in absurd (omega arith);
-        refused = λ m x.
-            let q : Verdict.Refused n ≡ Verdict.Refused m = sym g ∙ e ∙ x in
-            record { number-is = cc; world-is = refl };
-      }
+  tried-sourced q = rw r q

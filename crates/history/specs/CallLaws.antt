@@ -81,7 +81,7 @@ pub call-law : (w : World) (c : Call) → Between w → Law w (step w c)
 unfolding step pushCall
 call-law w (push b bytes) g = push-result (batchRows w b) (pushed w b) g (pushed-after w b g (between-tested g) (bytes .body))
 call-law w finish g =
-    rw (finish-steps w (between-tested g)) (finish-result (finished w) g (finished-after w (g .holding) (omega (arith, g .below)) (λ z. g)))
+    rw (finish-steps w (between-tested g)) (finish-result (finished w) g (finished-after w (g .holding) (omega (arith, g .below)) (λ z. g) (g .spared)))
 call-law w drop g = drop-law g
 call-law w (register bytes capacity) g = rw (register-steps w bytes capacity (between-tested g)) (same-law (register-same g bytes capacity))
 call-law w (letGo k) g = rw (let-go-steps w k (between-tested g)) (same-law (let-go-same g k))

@@ -46,7 +46,7 @@ module _ {w : World} (g : Between w) where
   pub finish-refusals : finishCall w .number ≢ 0 → Among (9 ∷ []) (finishCall w .number)
   finish-refusals n =
       rw (finish-steps w (between-tested g))
-      (old-among w (finished-after w (g .holding) (omega (arith, g .below)) (λ z. g)) (λ e. n (ap (λ (r : Answered). r .number) (finish-steps w (between-tested g)) ∙ e)))
+      (old-among w (finished-after w (g .holding) (omega (arith, g .below)) (λ z. g) (g .spared)) (λ e. n (ap (λ (r : Answered). r .number) (finish-steps w (between-tested g)) ∙ e)))
 
   -- drop: none
   pub drop-refusals : dropCall w .number ≡ 0

@@ -69,24 +69,32 @@ pub not-open : (k : BufferNumber) → OpenBlock.Closed ≡ OpenBlock.Number k �
 not-open k e = let z : _≡_ {A = ℕ} 0 1 = cc in omega arith
 
 -- columns as they were
-pub alone-columns : (s t : BatchCoalescer) → t .columns ≡ s .columns → ((c : ℕ) → columnOf t c ≡ columnOf s c) → Alone s → Alone t
+pub columns-open : (s t : BatchCoalescer) → t .columns ≡ s .columns → ((c : ℕ) → columnOf t c ≡ columnOf s c) → (c k : ℕ) → HasOpen t c k → HasOpen s c k
 unfolding isViews
-alone-columns s t n e a = record { alone = λ c d k p q. a .alone c d k (was c k p) (was d k q) }
-  where
-    was : (c k : ℕ) → HasOpen t c k → HasOpen s c k
-    was c k p = record { column = omega (arith, p .column, n); views = rw (← e c) (p .views); block = rw (← e c) (p .block) }
+columns-open s t n e c k p = record { column = omega (arith, p .column, n); views = rw (← e c) (p .views); block = rw (← e c) (p .block) }
+
+pub counts-open : (s : BatchCoalescer) (place queued buffered : ℕ) → (c k : ℕ) → HasOpen (withCounts s place queued buffered) c k → HasOpen s c k
+unfolding columnOf
+counts-open s place queued buffered = columns-open s (withCounts s place queued buffered) refl (λ c. refl)
+
+pub alone-columns : (s t : BatchCoalescer) → t .columns ≡ s .columns → ((c : ℕ) → columnOf t c ≡ columnOf s c) → Alone s → Alone t
+alone-columns s t n e a = record { alone = λ c d k p q. a .alone c d k (columns-open s t n e c k p) (columns-open s t n e d k q) }
 
 pub alone-counts : (s : BatchCoalescer) (place queued buffered : ℕ) → Alone s → Alone (withCounts s place queued buffered)
 unfolding columnOf
 alone-counts s place queued buffered a = alone-columns s (withCounts s place queued buffered) refl (λ c. refl) a
 
--- all but column c as they were, and no other column had the block open that c has now
+-- all but column c as they were
+pub other-open : {s t : BatchCoalescer} (c : ℕ) → SameSetUp s t → ((d : ℕ) → d ≢ c → columnOf t d .block ≡ columnOf s d .block) → (d k : ℕ) → d ≢ c → HasOpen t d k → HasOpen s d k
+other-open c e same d k n p =
+    record { column = omega (arith, p .column, e .columns); views = sym (same-views e d) ∙ p .views; block = sym (same d n) ∙ p .block }
+
+-- and no other column had the block open that c has now
 pub alone-one : {s t : BatchCoalescer} (c : ℕ) → SameSetUp s t → ((d : ℕ) → d ≢ c → columnOf t d .block ≡ columnOf s d .block) → ((d k : ℕ) → d ≢ c → HasOpen t c k → HasOpen s d k → ⊥) → Alone s → Alone t
 alone-one {s} {t} c e same new a = record { alone = λ d f k p q. go d f k p q (ℕ-discrete d c) (ℕ-discrete f c) }
   where
     was : (d k : ℕ) → d ≢ c → HasOpen t d k → HasOpen s d k
-    was d k n p =
-        record { column = omega (arith, p .column, e .columns); views = sym (same-views e d) ∙ p .views; block = sym (same d n) ∙ p .block }
+    was = other-open c e same
 
     go : (d f k : ℕ) → HasOpen t d k → HasOpen t f k → Dec (d ≡ c) → Dec (f ≡ c) → d ≡ f
     go d f k p q (yes y) (yes z) = y ∙ sym z

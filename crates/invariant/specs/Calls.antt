@@ -12,3 +12,4 @@ pub mod DropCounts
 pub mod DropAfter
 pub mod SetUpAfter
 pub mod Tested
+pub mod PoolAfter

@@ -5,6 +5,7 @@ pub mod ByteLaws
 pub mod Rests
 pub mod CountLaws
 pub mod AloneLaws
+pub mod PoolLaws
 pub mod SlotLaws
 pub mod PutLaws
 pub mod RowLaws

@@ -85,7 +85,7 @@ module _ (w : World) (slot c : ℕ) where
       go (yes l) = rw (number-listed i l, lt-ltb i (listLength w slot c) l)
       go (no l) =
           let p = reach-behind i h (omega arith) in
-          rw (number-open i (omega arith), le-ltb i (listLength w slot c) (omega arith), eq-eqb slot (w .state .place) (p .0))
+          rw (number-open i (omega arith), le-ltb i (listLength w slot c) (omega arith), eq-eqb i (listLength w slot c) (p .2), eq-eqb slot (w .state .place) (p .0))
           (open-bytes (columnOf (w .state) c .block) (p .1))
 
 -- ---- cells

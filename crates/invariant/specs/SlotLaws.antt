@@ -22,7 +22,6 @@ use Rattle.sound.specs.SoundLaws.{sound-recount}
 use Rattle.state.specs.declared.BatchCoalescer.{BatchCoalescer}
 use Rattle.state.specs.World.{World}
 use Rattle.state.specs.Layout.{widthOf, isViews, bitmapBytes, bitmapPlace, listPlace, cellPlace, rowsIn, listLength}
-use Rattle.state.specs.LayoutLaws.{bits-fit}
 use Rattle.state.specs.Where.{Where, cells, bitmap, listed, startOf, sizeOf, Inside, cells-inside, bitmap-inside, listed-inside, Other}
 use Rattle.state.specs.WhereLaws.{other-apart}
 use Rattle.state.specs.Rows.{listedAt}
@@ -34,6 +33,7 @@ use Rattle.invariant.specs.Holding.{reach, numberAt, listings, rowsAt, H
 use Rattle.invariant.specs.BeginLaws.{begins-refl}
 use Rattle.invariant.specs.Rests.{Rests, Lists}
 use Rattle.invariant.specs.CountLaws.{times-same, listings-same}
+use Rattle.invariant.specs.PoolLaws.{relisted-is, books-stay}
 use Rattle.invariant.specs.Steps.MoveLaws.{Remains, remains-moves, live-stands}
 use Rattle.invariant.specs.Steps.Moves.{Moves}
 
@@ -51,9 +51,9 @@ module _ (s : BatchCoalescer) {p q : List ℕ} (a : Where) (f : Framed (startOf 
   pub cell-agrees : (slot c i : ℕ) → slot ≤ s .queue → c < s .columns → i < s .rows .0 → Other a (cells slot c i 1) → Agrees p (cellPlace s slot c i) q (cellPlace s slot c i) (widthOf s c)
   cell-agrees slot c i l m n o = rw (one-mul (widthOf s c)) at (thing-agrees (cells slot c i 1) (cells-inside l m (omega arith)) o)
 
-  pub bit-agrees : (slot c i : ℕ) → slot ≤ s .queue → c < s .columns → i < s .rows .0 → Other a (bitmap slot c) → bitsFrom q (bitmapPlace s slot c) 0 i ≡ bitsFrom p (bitmapPlace s slot c) 0 i
+  pub bit-agrees : (slot c i : ℕ) → slot ≤ s .queue → c < s .columns → i < 8 * bitmapBytes s → Other a (bitmap slot c) → bitsFrom q (bitmapPlace s slot c) 0 i ≡ bitsFrom p (bitmapPlace s slot c) 0 i
   bit-agrees slot c i l m n o =
-      agrees-bit (bitmapPlace s slot c) (bitmapBytes s) i (thing-agrees (bitmap slot c) (bitmap-inside l m) o) (omega (arith, bits-fit s))
+      agrees-bit (bitmapPlace s slot c) (bitmapBytes s) i (thing-agrees (bitmap slot c) (bitmap-inside l m) o) n
 
   pub entry-agrees : (slot c i : ℕ) → slot ≤ s .queue → c < s .columns → isViews s c ≡ true → i < s .lists → Other a (listed slot c i) → word32 q (listPlace s slot c + 4 * i) ≡ word32 p (listPlace s slot c + 4 * i)
   entry-agrees slot c i l m y n o =
@@ -118,10 +118,11 @@ module _ {w : World} {ext : ℕ → ℕ} (x : List ℕ) (a : Holding w ext) (wor
         sizes = a .sizes;
         sixteen = a .sixteen;
         alone = a .alone;
+        unheld = a .unheld;
         rows = λ slot p. slots-rows w x slot;
         unlisted = λ slot c p d q. slots-length w x slot c;
       }
 
   pub slots-moves : length x ≡ length (w .slots) → (Bytes (w .slots) → Bytes x) → ((slot c i : ℕ) → slot ≤ w .state .queue → c < w .state .columns → i < rowsAt w ext slot c → Rests w (inSlots w x) slot c i) → Moves w ext (inSlots w x) ext
   slots-moves len bytes rests =
-      remains-moves a (slots-goes refl len refl refl (a .run)) (beside-state w (inSlots w x) refl len refl refl) (slots-remain rests) bytes stands-here
+      remains-moves a (slots-goes refl len refl refl (a .run)) (beside-state w (inSlots w x) refl len refl refl) (slots-remain rests) bytes stands-here (books-stay w (inSlots w x) refl refl (λ k l h. h) (λ k l h. relisted-is refl) (λ c k h o. o))

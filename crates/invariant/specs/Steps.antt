@@ -2,6 +2,7 @@
 pub mod Moves
 pub mod MoveLaws
 pub mod CopyMoves
+pub mod SpareMoves
 pub mod Stored
 pub mod ValueMoves
 pub mod OneList

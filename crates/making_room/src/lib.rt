@@ -4,7 +4,7 @@ ghost use mathlib.Core.Path.{_≡_};
 ghost use Prim.Native.Nat.{_+_, _*_, _≤_};
 ghost use lib.ListN.{length};
 ghost use Rattle.books.specs.Entry.{usedOf};
-ghost use Rattle.room.specs.Room.{chosen, openedAs, opened, tried, Opens};
+ghost use Rattle.room.specs.Room.{chosen, isZero, openedAs, opened, tried, Opens};
 use books::Entry;
 use books::Found;
 use books::Gap;
@@ -29,7 +29,14 @@ pub fn choose(books: &[u8], n: u32, pool: u32, capacity: ByteSum) -> Chosen
     Chosen::At(Room { number, start })
 }
 
-// An empty buffer of the capacity, with the hold and the listings given.
+// Whether an entry is zero.
+fn is_zero(e: Entry) -> bool
+    ensures { λ r. ⌜ r ≡ isZero e ⌝ }
+{
+    (e.start == 0) & ((e.capacity.0 == 0) & ((e.length.0 == 0) & books::is_free(e)))
+}
+
+// An empty buffer of the capacity, with the hold and the listings given; 14 where the entry of its number is not zero.
 fn open_as(
     books: &mut [u8],
     n: u32,
@@ -45,15 +52,20 @@ fn open_as(
     let Chosen::At(r) = room else {
         return room;
     };
-    let e = Entry {
-        start: r.start,
-        capacity: ByteCount(capacity.0 as u32),
-        length: ByteCount(0),
-        hold,
-        listings,
-    };
-    listings::take_entry(books, r.number.0, e);
-    room
+    let old = books::entry_at(books, r.number.0 as usize);
+    if is_zero(old) {
+        let e = Entry {
+            start: r.start,
+            capacity: ByteCount(capacity.0 as u32),
+            length: ByteCount(0),
+            hold,
+            listings,
+        };
+        listings::take_entry(books, r.number.0, e);
+        room
+    } else {
+        Chosen::Refused(14)
+    }
 }
 
 // A block for copied bytes: nobody holds it, and it counts as listed.

@@ -15,7 +15,7 @@ use Rattle.blocks.specs.Block.{asked}
 use Rattle.sound.specs.Change.{withLength}
 use Rattle.room.specs.declared.Room.{Room}
 use Rattle.room.specs.declared.Chosen.{Chosen}
-use Rattle.room.specs.Room.{opened, chosen}
+use Rattle.room.specs.Room.{opened}
 use Rattle.room.specs.BackLaws.{opened-answer}
 use Rattle.state.specs.declared.BatchCoalescer.{BatchCoalescer}
 use Rattle.state.specs.declared.Column.{Column}
@@ -25,7 +25,7 @@ use Rattle.state.specs.Layout.{listPlace, listLength, tally}
 use Rattle.rules.specs.Steps.{ok, refuse, withColumn, counting, listing}
 use Rattle.rules.specs.Views.{blockNumber, openNumber, closed, opening, blockOpened}
 use Rattle.rules.specs.Held.{among-not}
-use Rattle.rules.specs.PartLaws.{chosen-among}
+use Rattle.rules.specs.PartLaws.{block-among}
 use Rattle.rules.specs.declared.Step.{Step}
 use Rattle.rules.specs.Leaves.{steps-done, steps-refused}
 use Rattle.columns.specs.SourceLaws.{list-same}
@@ -86,7 +86,7 @@ module _ (s : BatchCoalescer) (books : List ℕ) (c : ℕ) (min : ByteSum) {x : 
       record { steps = λ slots pool. steps-refused some (ap (opening (world s slots pool books) c (min .0)) outcome ∙ go slots pool) }
     where
       some : number ≢ 0
-      some = among-not 0 refl (chosen-among books (s .numbers) (s .pool .0) (next .size .0) number (sym (opened-answer _ _ _ _) ∙ sym (o .answer-is) ∙ w))
+      some = among-not 0 refl (block-among books (s .numbers) (s .pool .0) (next .size .0) number (sym (opened-answer _ _ _ _) ∙ sym (o .answer-is) ∙ w))
 
       go : (slots pool : List ℕ) → opening (world s slots pool books) c (min .0) (record { answer = a; books = books′ }) ≡ refuse number
       go slots pool = rw w

@@ -1,11 +1,11 @@
-// What calls only read, printed: the rows of the batch that a drop takes, cell by cell; a cell, a buffer, the books.
+// What calls only read, printed: the rows of the batch that a drop takes, cell by cell; a cell, a buffer, the books, bytes of a memory.
 ghost use Prim.Native.Nat.{_<_, _≤_};
 use crate::Job;
 use crate::calls;
 use answers::Cell;
 use capture::Call;
 
-// What a call reads: the rows of the batch that a drop takes; a cell, a buffer, the books.
+// What a call reads: the rows of the batch that a drop takes; a cell, a buffer, the books, bytes of a memory.
 pub fn look(job: Job, state: &[u8], slots: &[u8], pool: &[u8], books: &[u8], x: Call) {
     let what = x.what;
     match what {
@@ -13,6 +13,7 @@ pub fn look(job: Job, state: &[u8], slots: &[u8], pool: &[u8], books: &[u8], x: 
         8 => show_place(state, slots, pool, books, x.a, x.b),
         9 => show_buffer(state, slots, pool, books, x.a),
         11 => telling::show_books(books),
+        14 => show_bytes(state, slots, pool, books, x),
         _ => {}
     }
 }
@@ -29,6 +30,22 @@ fn show_buffer(state: &[u8], slots: &[u8], pool: &[u8], books: &[u8], number: u3
     let mut bytes = [0u8; 64];
     let answer = calls::buffer(state, slots, pool, books, number, &mut bytes);
     telling::buffer(number, answers::answer_in(answer), &bytes);
+}
+
+// Bytes of one of the memories: 0 the state, 1 the slots, 2 the books, else the pool.
+fn show_bytes(state: &[u8], slots: &[u8], pool: &[u8], books: &[u8], x: Call) {
+    let memory = x.a;
+    match memory {
+        0 => show_part(state, x),
+        1 => show_part(slots, x),
+        2 => show_part(books, x),
+        _ => show_part(pool, x),
+    }
+}
+
+// Bytes of a memory as they stand, or none where they are not all there.
+fn show_part(memory: &[u8], x: Call) {
+    telling::show_bytes(x.a, x.b, answers::part(memory, x.b as usize, x.c as usize));
 }
 
 // The rows of the front batch, cell by cell: until a row is not there.

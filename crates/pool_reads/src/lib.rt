@@ -4,6 +4,7 @@ ghost use Prim.Native.Nat.{_+_, _*_, _≤_};
 ghost use lib.ListN.{length};
 ghost use Rattle.books.specs.Entry.{usedOf};
 ghost use Rattle.pool.specs.Read.{partOf, readRefusal};
+ghost use Rattle.pool_reads.specs.Place.{partStart, PartAt};
 use counts::BufferNumber;
 
 // The number of the refusal of a read of a buffer: 0, or 13 where it isn't there.
@@ -28,6 +29,7 @@ pub fn buffer_refusal(books: &[u8], pool: &[u8], number: BufferNumber) -> u32
 pub fn buffer_part<'a>(books: &[u8], pool: &'a [u8], number: BufferNumber) -> &'a [u8]
     requires { ⌜ 4 + 20 * usedOf (now books) ≤ length (now books) ⌝ }
     ensures { λ r. ⌜ now r ≡ partOf (now (books .entry)) (now (pool .entry)) (number .0) ⌝ }
+    ensures { λ r. ⌜ PartAt (pool .entry .ptr) (r .ptr) (partStart (now (books .entry)) (now (pool .entry)) (number .0)) ⌝ }
 {
     if buffer_refusal(books, pool, number) == 0 {
         let e = books::entry_at(books, number.0 as usize);

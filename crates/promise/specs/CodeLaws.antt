@@ -1,9 +1,11 @@
 -- What the code makes is the history that its calls are: demand 3, of the code.
 use Prim.Native.Nat.{ℕ, _<_}
 use mathlib.Core.Path.{_≡_, refl, sym, _∙_, ap}
+use mathlib.Core.Logic.{_≢_}
 use mathlib.Core.List.{List, [], _∷_, _++_}
 use lib.Dec.{eqb}
 use lib.ListN.{length}
+use Rattle.pool.specs.Register.{refusalOf}
 use Rattle.state.specs.declared.BatchCoalescer.{BatchCoalescer}
 use Rattle.state.specs.World.{World, world}
 use Rattle.state.specs.Rows.{joined, queuedRows, bufferedRows}
@@ -14,14 +16,12 @@ use Rattle.rules.specs.Calls.{Answered, Wanted, setUpCall, dropCall, registerCa
 use Rattle.rules.specs.CallLaws.{set-up-zero, set-up-done}
 use Rattle.set_up.specs.SetUp.{SetsUp}
 use Rattle.capi.specs.ApiLaws.{drop-same, register-same, let-go-same}
-use Rattle.invariant.specs.Holding.{Between}
 use Rattle.invariant.specs.Calls.Tested.{between-tested}
-use Rattle.invariant.specs.Calls.SetUpAfter.{set-up-begins}
 use Rattle.history.specs.Call.{Call, push, finish, drop, register, letGo, limit, read, Did, ifDone, front, step, run}
-use Rattle.history.specs.CallLaws.{call-law}
 use Rattle.history.specs.History.{did, all, in-order, below-target}
-use Rattle.promise.specs.Orderly.{between-orderly}
-use Rattle.promise.specs.Code.{Made, by-push, by-finish, by-drop, by-register, by-let-go, by-limit, by-read, Makes, none, next}
+use Rattle.history.specs.Stray.{refusal}
+use Rattle.history.specs.StrayLaws.{refused-nothing}
+use Rattle.promise.specs.Code.{Made, by-push, by-finish, by-drop, by-register, by-let-go, by-limit, by-read, Makes, none, next, astray}
 
 -- ---- one call
 
@@ -32,31 +32,54 @@ changed v = record { world = v; accepted = []; taken = [] }
 lent-parts : {state : BatchCoalescer} {slots pool books : List ℕ} (v : World) → v .state ≡ state → v .slots ≡ slots → v .pool ≡ pool → v .books ≡ books → world state slots pool books ≡ v
 lent-parts v e f g h = rw (← e, ← f, ← g, ← h)
 
-pub made-is : (w : World) (c : Call) {x : Did} → Between w → Made w c x → x ≡ step w c
+pub made-is : (w : World) (c : Call) {n : ℕ} {x : Did} → Made w c n x → x ≡ step w c
 unfolding step
-made-is w (push b bytes) g (by-push d p) =
-    ap (λ (a : Answered). record { world = a .world; accepted = ifDone (a .number) (batchRows w b); taken = [] }) (p .exact (between-orderly g))
-made-is w finish g (by-finish e) = ap (λ (a : Answered). changed (a .world)) e
-made-is w drop g (by-drop p) =
+made-is w (push b bytes) (by-push d p) =
+    ap (λ (a : Answered). record { world = a .world; accepted = ifDone (a .number) (batchRows w b); taken = [] }) p
+made-is w finish (by-finish e) = ap (λ (a : Answered). changed (a .world)) e
+made-is w drop (by-drop p) =
     rw (p .state-is, p .number-is, p .books-are)
     (ap (λ (v : World). record { world = v; accepted = []; taken = front w (dropCall w .number) (eqb (w .state .queued) 0) })
     (lent-parts (dropCall w .world) refl (drop-same w .0) (drop-same w .1) refl))
-made-is w (register bytes capacity) g (by-register p) =
+made-is w (register bytes capacity) (by-register p) =
     rw (p .pool-is, p .books-are)
     (ap changed (lent-parts (registerCall w bytes capacity .world) (register-same w bytes capacity .0) (register-same w bytes capacity .1) refl refl))
-made-is w (letGo k) g (by-let-go p) = rw (p .books-are) (ap changed (sym (let-go-same w k)))
-made-is w (limit l) g (by-limit e) = rw e
-made-is w read g by-read = refl
+made-is w (letGo k) (by-let-go p) = rw (p .books-are) (ap changed (sym (let-go-same w k)))
+made-is w (limit l) (by-limit e) = rw e
+made-is w read by-read = refl
+
+-- and the number is the call's
+pub made-number : (w : World) (c : Call) {n : ℕ} {x : Did} → Made w c n x → n ≡ refusal w c
+unfolding refusal
+made-number w (push b bytes) (by-push d p) = ap (λ (a : Answered). a .number) p
+made-number w finish (by-finish e) = ap (λ (a : Answered). a .number) e
+made-number w drop (by-drop p) = p .number-is
+made-number w (register bytes capacity) (by-register p) = ap refusalOf (p .answer-is)
+made-number w (letGo k) (by-let-go p) = p .answer-is
+made-number w (limit l) (by-limit e) = refl
+made-number w read by-read = refl
+
+-- so what the code refuses changes nothing, whatever it was handed: demand 1, of the code
+pub made-nothing : (w : World) (c : Call) {n : ℕ} {x : Did} → Made w c n x → n ≢ 0 → x ≡ record { world = w; accepted = []; taken = [] }
+made-nothing w c m d = made-is w c m ∙ refused-nothing w c (λ z. d (made-number w c m ∙ z))
 
 -- ---- a history
 
-pub makes-is : (w : World) (cs : List Call) {x : Did} → Between w → Makes w cs x → x ≡ run w cs
+-- a call, and what was done behind it
+abbrev behind : Did → Did → Did
+behind x y = record { world = y .world; accepted = x .accepted ++ y .accepted; taken = x .taken ++ y .taken }
+
+pub makes-is : {w : World} {cs : List Call} {x : Did} → Makes w cs x → (u : World) → u ≡ w → x ≡ run u cs
 unfolding run
-makes-is w [] g none = refl
-makes-is w (c ∷ cs) g (next {x = x} {y = y} m ms) =
-    let e : x ≡ step w c = made-is w c g m in
-    let t : Makes (step w c .world) cs y = rw e at ms in
-    rw (e, makes-is (step w c .world) cs (call-law w c g .between) t)
+makes-is none u e = ap changed (sym e)
+makes-is {w} (next {c = c} {x = x} {y = y} m ms) u e =
+    let s : x ≡ step u c = made-is w c m ∙ ap (λ (z : World). step z c) (sym e) in
+    let r = makes-is ms (step u c .world) (sym (ap (λ (d : Did). d .world) s)) in
+    ap (λ (d : Did). behind d y) s ∙ ap (behind (step u c)) r
+makes-is {w} (astray {v = v} {c = c} {x = x} {y = y} live p m n ms) u e =
+    let s : x ≡ changed v = made-nothing v c m n in
+    let k : live (x .world) ≡ w = ap (λ (d : Did). live (d .world)) s ∙ p in
+    ap (λ (d : Did). behind d y) s ∙ makes-is ms u (e ∙ sym k)
 
 -- ---- from a set-up: new_coalescer, which answered 0, and any calls after it, x being what they did
 
@@ -72,7 +95,7 @@ module _ (a : Wanted) (slots pool books : List ℕ) {r : Step} {books′ : List 
 
   -- what the code did is the history
   pub code-is : x ≡ did a slots pool books begun cs
-  code-is = makes-is (setUpCall a slots pool books .world) cs (set-up-begins a slots pool books begun .between) (rw first-is at m)
+  code-is = makes-is m (setUpCall a slots pool books .world) (sym first-is)
 
   -- so that all that is proved of histories is proved of the code: demand 3
   pub code-in-order : x .accepted ≡ joined (x .taken) ++ (queuedRows (x .world) ++ bufferedRows (x .world))

@@ -1,6 +1,7 @@
 -- A history on bytes: calls of the C layer one behind another, each with what it answered, as its contract says it.
 use Prim.Native.Nat.{ℕ, _/_, _%_}
 use mathlib.Core.Path.{_≡_}
+use mathlib.Core.Logic.{_≢_}
 use mathlib.Core.List.{List, [], _∷_, _++_}
 use lib.Dec.{eqb}
 use Rattle.words.specs.WordLaws.{Bytes}
@@ -9,8 +10,7 @@ use Rattle.state.specs.Rows.{Row}
 use Rattle.rules.specs.Batch.{Batch, batchRows}
 use Rattle.rules.specs.Calls.{Wanted}
 use Rattle.codes.specs.Code.{limitIn, decoded}
-use Rattle.capi.specs.Api.{Memory, memory, said, told, number, both, finishing, dropping, registering, lettingGo, worldIn, called, created, limitSet}
-use Rattle.capi.specs.HandsOn.{HandsOn}
+use Rattle.capi.specs.Api.{Memory, memory, said, told, number, both, pushing, finishing, dropping, registering, lettingGo, worldIn, called, created, limitSet}
 use Rattle.history.specs.Call.{OfBytes, Call, push, finish, drop, register, letGo, limit, read, ifDone, front}
 
 -- bytes that hold a world: they are bytes that code its state, and slots, pool and books are its own
@@ -24,7 +24,7 @@ pub record HoldsWorld (m : Memory) (w : World) : Type 0 where
 -- a call of the C layer: what it answers, and the memories after it, their state of bytes, as every slice of the machine is
 pub data Sent (m : Memory) : Call → ℕ → Memory → Type 0 where
   -- pw_push_batch
-  sent-push : {b : Batch} (bytes : OfBytes b) {r : ℕ} {m′ : Memory} → HandsOn m b r m′ → Bytes (m′ .state) → Sent m (push b bytes) r m′
+  sent-push : {b : Batch} (bytes : OfBytes b) {r : ℕ} {m′ : Memory} → said r m′ ≡ called number (pushing b) m → Bytes (m′ .state) → Sent m (push b bytes) r m′
   -- pw_finish_buffered_batch
   sent-finish : {r : ℕ} {m′ : Memory} → said r m′ ≡ called number finishing m → Bytes (m′ .state) → Sent m finish r m′
   -- pw_next_completed_batch
@@ -88,7 +88,19 @@ pub record DidBytes : Type 0 where
   pub accepted : List Row
   pub taken : List (List Row)
 
--- calls one behind another, each on what the one before it left
+-- the refusal in an answer, and 0 where there is none
+abbrev pub refusedBy : Call → ℕ → ℕ
+refusedBy (push b bytes) r = r
+refusedBy finish r = r
+refusedBy drop r = upper r
+refusedBy (register bytes capacity) r = upper r
+refusedBy (letGo k) r = r
+refusedBy (limit l) r = r
+refusedBy read r = 0
+
+-- calls one behind another, each on what the one before it left; and among them any that were refused and were handed any other memories l, lent any part
+-- of the live ones: `live` makes up the live memories from what was lent
 pub data Sends : Memory → List Call → DidBytes → Type 0 where
   none : {m : Memory} → Sends m [] (record { memory = m; accepted = []; taken = [] })
   next : {m n : Memory} {c : Call} {cs : List Call} {r : ℕ} {y : DidBytes} → Sent m c r n → Sends n cs y → Sends m (c ∷ cs) (record { memory = y .memory; accepted = acceptedBy m c r ++ y .accepted; taken = takenBy m c r ++ y .taken })
+  astray : {m l n : Memory} {c : Call} {cs : List Call} {r : ℕ} {y : DidBytes} (live : Memory → Memory) → live l ≡ m → Sent l c r n → refusedBy c r ≢ 0 → Sends (live n) cs y → Sends m cs (record { memory = y .memory; accepted = acceptedBy l c r ++ y .accepted; taken = takenBy l c r ++ y .taken })

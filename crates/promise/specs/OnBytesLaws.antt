@@ -34,7 +34,6 @@ use Rattle.capi.specs.Api.{Memory, memory, Said, said, Told, told, Form, number
 use Rattle.capi.specs.ApiLaws.{decoded-length, limit-code}
 use Rattle.capi.specs.ApiLaws as api
 use Rattle.capi.specs.QuietLaws.{Quiet, pushing-quiet, finishing-quiet, dropping-quiet, registering-quiet, letting-go-quiet}
-use Rattle.capi.specs.HandsOn.{HandsOn, hands-orderly}
 use Rattle.invariant.specs.Holding.{Between}
 use Rattle.invariant.specs.AloneLaws.{new-sixteen}
 use Rattle.invariant.specs.Calls.Tested.{between-tested}
@@ -43,7 +42,6 @@ use Rattle.history.specs.Call.{Call, push, finish, drop, register, letGo, limit
 use Rattle.history.specs.CallLaws.{call-law}
 use Rattle.history.specs.History.{did, in-order}
 use Rattle.history.specs.Reads.{reads-taken}
-use Rattle.promise.specs.Orderly.{between-orderly, leaves-orderly}
 use Rattle.promise.specs.OnBytes.{
   HoldsWorld,
   Sent,
@@ -63,7 +61,9 @@ use Rattle.promise.specs.OnBytes.{
   Sends,
   none,
   next,
+  astray,
 }
+use Rattle.promise.specs.RefusedLaws.{sent-nothing, nothing-accepted, nothing-taken}
 
 -- ---- one call
 
@@ -118,14 +118,10 @@ unfolding limitSet
 limit-done flag rows {m = m} h p =
     ap (λ (t : Told). t .answer) (rw (eq-eqb (length (m .state)) stateBytes (decoded-length (m .state) refl (h .coded))) at p)
 
--- a push of the C layer is 01's on bytes that hold a world between two calls
-push-said : {m : Memory} {b : Batch} {r : ℕ} {m′ : Memory} {w : World} → Between w → HoldsWorld m w → HandsOn m b r m′ → said r m′ ≡ called number (pushing b) m
-push-said g h p = hands-orderly p (λ z. rw (h .is) (between-orderly g))
-
 pub sent-holds : (m : Memory) (c : Call) {r : ℕ} {m′ : Memory} {w : World} → Between w → HoldsWorld m w → Sent m c r m′ → HoldsWorld m′ (step w c .world)
 unfolding step pushing finishing dropping registering lettingGo
 sent-holds m (push b bytes) {w = w} g h (sent-push d p is) =
-    called-holds (pushing b) (pushing-quiet b) h (call-law w (push b bytes) g .between .holding .sixteen) number (push-said g h p) is
+    called-holds (pushing b) (pushing-quiet b) h (call-law w (push b bytes) g .between .holding .sixteen) number p is
 sent-holds m finish {w = w} g h (sent-finish p is) =
     called-holds finishing finishing-quiet h (call-law w finish g .between .holding .sixteen) number p is
 sent-holds m drop {w = w} g h (sent-drop p is) =
@@ -151,7 +147,7 @@ Answers w read r = r ≡ r
 
 pub sent-answers : (m : Memory) (c : Call) {r : ℕ} {m′ : Memory} {w : World} → Between w → HoldsWorld m w → Sent m c r m′ → Answers w c r
 unfolding pushing finishing dropping registering lettingGo
-sent-answers m (push b bytes) g h (sent-push d p is) = called-answer (pushing b) h number (push-said g h p)
+sent-answers m (push b bytes) g h (sent-push d p is) = called-answer (pushing b) h number p
 sent-answers m finish g h (sent-finish p is) = called-answer finishing h number p
 sent-answers m drop g h (sent-drop p is) = called-answer dropping h both p
 sent-answers m (register bytes capacity) g h (sent-register p is) = called-answer (registering bytes capacity) h both p
@@ -238,11 +234,19 @@ pub record Ran (y : DidBytes) (x : Did) : Type 0 where
   pub accepted-are : y .accepted ≡ x .accepted
   pub taken-are : y .taken ≡ x .taken
 
-pub sends-ran : (m : Memory) (cs : List Call) {y : DidBytes} {w : World} → Between w → HoldsWorld m w → Sends m cs y → Ran y (run w cs)
+pub sends-ran : {m : Memory} {cs : List Call} {y : DidBytes} {w : World} → Between w → HoldsWorld m w → Sends m cs y → Ran y (run w cs)
 unfolding run
-sends-ran m [] g h none = record { holds = h; accepted-are = refl; taken-are = refl }
-sends-ran m (c ∷ cs) {w = w} g h (next {n = n} {y = y} s ss) =
-    let rest = sends-ran n cs (call-law w c g .between) (sent-holds m c g h s) ss in
+sends-ran g h none = record { holds = h; accepted-are = refl; taken-are = refl }
+sends-ran {w = w} g h (astray {m = m} {l = l} {n = n} {c = c} {r = r} live e s d ss) =
+    let k : live n ≡ m = ap live (sent-nothing l c s d) ∙ e in
+    let rest = sends-ran g (rw k h) ss in
+    record {
+      holds = rest .holds;
+      accepted-are = rw (nothing-accepted l c r d) (rest .accepted-are);
+      taken-are = rw (nothing-taken l c r d) (rest .taken-are);
+    }
+sends-ran {w = w} g h (next {m = m} {n = n} {c = c} {y = y} s ss) =
+    let rest = sends-ran (call-law w c g .between) (sent-holds m c g h s) ss in
     record {
       holds = rest .holds;
       accepted-are = rw (sent-accepted m c g h s, rest .accepted-are);
@@ -277,11 +281,7 @@ module _ (a : Wanted) (kinds : List ℕ) (m : Memory) {r : ℕ} {m₁ : Memory} 
   -- the bytes hold the world of the history, of which all is proved; what the calls answered tells its rows
   pub bytes-ran : Ran y (did a (m .slots) (m .pool) (m .books) set-up-is cs)
   bytes-ran =
-      sends-ran m₁ cs (set-up-begins a (m .slots) (m .pool) (m .books) set-up-is .between) (created-holds a kinds m (p .is) z (p .bytes) .1) s
-
-  -- so a push of the C layer is 01's there: one answer, and one content of every memory
-  pub holds-push : {x : Batch} {q : ℕ} {n : Memory} → HandsOn (y .memory) x q n → said q n ≡ called number (pushing x) (y .memory)
-  holds-push h = hands-orderly h (λ e. rw (bytes-ran .holds .is) (leaves-orderly a (m .slots) (m .pool) (m .books) set-up-is cs))
+      sends-ran (set-up-begins a (m .slots) (m .pool) (m .books) set-up-is .between) (created-holds a kinds m (p .is) z (p .bytes) .1) s
 
   -- and the rows of the pushes that answered 0 are the rows taken, then those that the bytes hold: demand 3, on bytes
   pub bytes-in-order : y .accepted ≡ joined (y .taken) ++ (queuedRows (worldIn (y .memory)) ++ bufferedRows (worldIn (y .memory)))

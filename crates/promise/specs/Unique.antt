@@ -1,7 +1,6 @@
 -- Two outcomes that keep a promise at the same input are the same: a law for each form of contract.
 use Prim.Native.Nat.{ℕ}
 use mathlib.Core.Path.{_≡_, sym, _∙_}
-use mathlib.Core.Logic.{_≢_}
 use mathlib.Core.List.{List}
 use Rattle.pool.specs.declared.Registered.{Registered}
 use Rattle.state.specs.World.{World}
@@ -9,27 +8,21 @@ use Rattle.rules.specs.declared.Step.{Step}
 use Rattle.rules.specs.Batch.{Batch}
 use Rattle.rules.specs.Calls.{Answered, RegisterAnswer}
 use Rattle.rules.specs.Calls as calls
-use Rattle.trial_truth.specs.Like.{OwnBlocks}
 use Rattle.finishing.specs.Finish.{answered}
-use Rattle.judging.specs.declared.Verdict.{Verdict}
-use Rattle.judging.specs.Judging.{verdictOf}
-use Rattle.coalesce.specs.Push.{Orderly, Pushes}
 use Rattle.completed.specs.declared.Dropped.{Dropped}
 use Rattle.completed.specs.Drop.{Drops}
 use Rattle.set_up.specs.SetUp.{SetsUp}
 use Rattle.buffers.specs.Buffers.{RegistersCall, LetsGoCall}
-use Rattle.codes.specs.Code.{decoded}
-use Rattle.capi.specs.Api.{Memory, Said, said, Told, told, worldIn}
-use Rattle.capi.specs.HandsOn.{HandsOn, hands-orderly, hands-tested}
+use Rattle.capi.specs.Api.{Memory, Said, said, Told, told}
 
 -- ---- equalities
 
--- every contract of the form x ≡ f: finish_buffered_batch (x is the answer and the world), read_row, read_buffer, buffer_refusal,
+-- every contract of the form x ≡ f: push_batch and finish_buffered_batch (x is the answer and the world), read_row, read_buffer, buffer_refusal,
 -- biggest_coalesce_batch_size and its setter, get_buffered_rows, has_completed_batch, is_empty
 pub same-outcome : {A : Type 0} {x y f : A} → x ≡ f → y ≡ f → x ≡ y
 same-outcome e d = e ∙ sym d
 
--- answer and memories: pw_new, pw_finish_buffered_batch, pw_next_completed_batch, pw_register_buffer, pw_let_go
+-- answer and memories: pw_new, pw_push_batch, pw_finish_buffered_batch, pw_next_completed_batch, pw_register_buffer, pw_let_go
 pub same-said : {r q : ℕ} {m n : Memory} {f : Said} → said r m ≡ f → said q n ≡ f → said r m ≡ said q n
 same-said = same-outcome
 
@@ -40,6 +33,10 @@ same-told = same-outcome
 -- a number: pw_buffer_refusal, pw_biggest_coalesce_batch_size, pw_get_buffered_rows, pw_has_completed_batch, pw_is_empty
 pub same-number : {r q f : ℕ} → r ≡ f → q ≡ f → r ≡ q
 same-number = same-outcome
+
+-- push_batch, in every world: no premise
+pub same-push : (w : World) (b : Batch) {r q : Step} {slots slots′ pool pool′ books books′ : List ℕ} → answered r slots pool books ≡ calls.pushCall w b → answered q slots′ pool′ books′ ≡ calls.pushCall w b → answered r slots pool books ≡ answered q slots′ pool′ books′
+same-push w b = same-outcome
 
 -- ---- part by part
 
@@ -59,21 +56,3 @@ same-register p o = (same-outcome (p .answer-is) (o .answer-is), same-outcome (p
 -- let_go
 pub same-let-go : {a : Answered} {books books′ : List ℕ} {r q : ℕ} → LetsGoCall a books r → LetsGoCall a books′ q → (r ≡ q) × (books ≡ books′)
 same-let-go p o = (same-outcome (p .answer-is) (o .answer-is), same-outcome (p .books-are) (o .books-are))
-
--- ---- pushing
-
--- push_batch, in a world in order: every history leaves such (`between-orderly`)
-pub same-push : {w : World} {b : Batch} {r q : Step} {slots slots′ pool pool′ books books′ : List ℕ} → Orderly w → Pushes w b r slots pool books → Pushes w b q slots′ pool′ books′ → answered r slots pool books ≡ answered q slots′ pool′ books′
-same-push h p o = same-outcome (p .exact h) (o .exact h)
-
--- its number, where only the open blocks are in order
-pub same-push-number : {w : World} {b : Batch} {r q : Step} {slots slots′ pool pool′ books books′ : List ℕ} → OwnBlocks (w .state) (w .books) → Pushes w b r slots pool books → Pushes w b q slots′ pool′ books′ → r .number ≡ q .number
-same-push-number h p o = same-outcome (p .number h) (o .number h)
-
--- pw_push_batch, on bytes that hold a world in order or code no state
-pub same-push-said : {m : Memory} {x : Batch} {r q : ℕ} {n n′ : Memory} → (decoded (m .state) .number ≡ 0 → Orderly (worldIn m)) → HandsOn m x r n → HandsOn m x q n′ → said r n ≡ said q n′
-same-push-said h p o = same-outcome (hands-orderly p h) (hands-orderly o h)
-
--- and on any bytes, where its tests refuse, and for 0 rows
-pub same-push-tested : {m : Memory} {x : Batch} {r q : ℕ} {n n′ : Memory} → (decoded (m .state) .number ≡ 0 → verdictOf (worldIn m) x ≢ Verdict.Go) → HandsOn m x r n → HandsOn m x q n′ → said r n ≡ said q n′
-same-push-tested h p o = same-outcome (hands-tested p h) (hands-tested o h)

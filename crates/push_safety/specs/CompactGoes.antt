@@ -20,7 +20,7 @@ use Rattle.push_safety.specs.OpenGoes.{opened-anew, compacted-goes}
 use Rattle.push_safety.specs.Along.{Along, along-refl, along-trans, holds-both, holds-along, along-holds, along-in, along-views}
 
 abbrev parts : List ℕ
-parts = 8 ∷ 10 ∷ 11 ∷ 12 ∷ []
+parts = 8 ∷ 10 ∷ 11 ∷ 12 ∷ 14 ∷ []
 
 -- a new block in column c of a world further on
 record FreshBlock (w : World) (c min : ℕ) (u : World) : Type 0 where
@@ -43,7 +43,7 @@ module _ (w : World) (b : Batch) (c : ℕ) (h : c < w .state .columns) (y : isVi
       (compacted-goes v b c at from n (a .goes .run) (along-in (a .beside) c h) (along-views (a .beside) c y) o
       (omega (arith, l, same-long-before w v b (a .beside .set-up) c from n))))
 
-  part-compacts : (at from n : ℕ) → Run w → from + n ≤ b .rows → Holds (Goes w) (Among (8 ∷ 10 ∷ 11 ∷ 12 ∷ [])) (partCompacted w b c at from n)
+  part-compacts : (at from n : ℕ) → Run w → from + n ≤ b .rows → Holds (Goes w) (Among (8 ∷ 10 ∷ 11 ∷ 12 ∷ 14 ∷ [])) (partCompacted w b c at from n)
   unfolding partCompacted
   part-compacts at from n r l =
       holds-cond (isOpen w c)
@@ -68,5 +68,5 @@ module _ (w : World) (b : Batch) (c : ℕ) (h : c < w .state .columns) (y : isVi
           let s : longBefore w b c from n ≡ longBefore w b c from k + longBefore w b c (from + k) (n - k) = rw e at (before-more w b c from k (n - k)) in
           omega (arith, part-ideal w b c from n l)
 
-pub part-compacted-goes : (w : World) (b : Batch) (c at from n : ℕ) → Run w → c < w .state .columns → isViews (w .state) c ≡ true → from + n ≤ b .rows → Holds (Goes w) (Among (8 ∷ 10 ∷ 11 ∷ 12 ∷ [])) (partCompacted w b c at from n)
+pub part-compacted-goes : (w : World) (b : Batch) (c at from n : ℕ) → Run w → c < w .state .columns → isViews (w .state) c ≡ true → from + n ≤ b .rows → Holds (Goes w) (Among (8 ∷ 10 ∷ 11 ∷ 12 ∷ 14 ∷ [])) (partCompacted w b c at from n)
 part-compacted-goes w b c at from n r h y l = part-compacts w b c h y at from n r l

@@ -18,8 +18,8 @@ use Rattle.listings.specs.Listing.{taken}
 use Rattle.sound.specs.Change.{Changed}
 use Rattle.room.specs.declared.Room.{Room}
 use Rattle.room.specs.declared.Chosen.{Chosen}
-use Rattle.room.specs.Room.{chosen, entryAt, takenFor, openedAs, opened}
-use Rattle.room.specs.RoomLaws.{Found-room, room-says}
+use Rattle.room.specs.Room.{blockRoom, entryAt, takenFor, openedAs, opened}
+use Rattle.room.specs.RoomLaws.{Found-room, room-says, block-says}
 use Rattle.state.specs.declared.Column.{Column}
 use Rattle.state.specs.declared.OpenBlock.{OpenBlock}
 use Rattle.state.specs.World.{World, columnOf}
@@ -31,7 +31,7 @@ use Rattle.rules.specs.Steps.{ok, withColumn, inState, inBooks}
 use Rattle.rules.specs.Views.{filling, hasBlock, blockNumber, isOpen, openNumber, openFilled, openRest, opening, blockOpened, viewsFrom, longBefore, viewsCompacted}
 use Rattle.rules.specs.Held.{Among, one-of, Holds, held, refused, holds-more, holds-cond, holds-ok, holds-among}
 use Rattle.rules.specs.Stays.{same-refl}
-use Rattle.rules.specs.PartLaws.{chosen-among}
+use Rattle.rules.specs.PartLaws.{block-among}
 use Rattle.push_safety.specs.Run.{Run, Goes}
 use Rattle.push_safety.specs.TestedLaws.{bounds-say}
 use Rattle.push_safety.specs.BooksGo.{taken-at, taken-go, taken-in, length-at, length-go}
@@ -142,21 +142,21 @@ module _ (w : World) (c min : ℕ) (r : Run w) (h : c < w .state .columns) (y : 
     done : Opened w c min v
     done = record { goes = goes; is-open = ap hasBlock block; empty = empty; rest = rest }
 
-pub opened-anew : (w : World) (c min : ℕ) → Run w → c < w .state .columns → isViews (w .state) c ≡ true → Holds (Opened w c min) (Among (10 ∷ 11 ∷ 12 ∷ [])) (blockOpened w c min)
+pub opened-anew : (w : World) (c min : ℕ) → Run w → c < w .state .columns → isViews (w .state) c ≡ true → Holds (Opened w c min) (Among (10 ∷ 11 ∷ 12 ∷ 14 ∷ [])) (blockOpened w c min)
 unfolding blockOpened opened openedAs
 opened-anew w c min r h y =
     holds-cond (leb (listLength w (filling w) c + 1) (w .state .lists))
-    (λ l. holds-among (10 ∷ 11 ∷ 12 ∷ []) tt (go (leb-true _ _ l) (chosen (w .books) (w .state .numbers) (length (w .pool)) s) refl))
-    (λ l. refused (one-of (10 ∷ 11 ∷ 12 ∷ []) 10 tt))
+    (λ l. holds-among (10 ∷ 11 ∷ 12 ∷ 14 ∷ []) tt (go (leb-true _ _ l) (blockRoom (w .books) (w .state .numbers) (length (w .pool)) s) refl))
+    (λ l. refused (one-of (10 ∷ 11 ∷ 12 ∷ 14 ∷ []) 10 tt))
   where
     s : ℕ
     s = asked (columnOf (w .state) c .source) (record { 0 = min }) .size .0
 
-    go : listLength w (filling w) c + 1 ≤ w .state .lists → (a : Chosen) → chosen (w .books) (w .state .numbers) (length (w .pool)) s ≡ a → Holds (Opened w c min) (Among (11 ∷ 12 ∷ [])) (opening w c min (takenFor (w .books) s 0 1 a))
-    go l (Chosen.Refused n) e = refused (chosen-among (w .books) (w .state .numbers) (length (w .pool)) s n e)
-    go l (Chosen.At room) e = held (done w c min r h y l room (room-says (w .books) (w .state .numbers) (length (w .pool)) s room e))
+    go : listLength w (filling w) c + 1 ≤ w .state .lists → (a : Chosen) → blockRoom (w .books) (w .state .numbers) (length (w .pool)) s ≡ a → Holds (Opened w c min) (Among (11 ∷ 12 ∷ 14 ∷ [])) (opening w c min (takenFor (w .books) s 0 1 a))
+    go l (Chosen.Refused n) e = refused (block-among (w .books) (w .state .numbers) (length (w .pool)) s n e)
+    go l (Chosen.At room) e = held (done w c min r h y l room (room-says (w .books) (w .state .numbers) (length (w .pool)) s room (block-says (w .books) (w .state .numbers) (length (w .pool)) s room e .chooses)))
 
-pub opened-goes : (w : World) (c min : ℕ) → Run w → c < w .state .columns → isViews (w .state) c ≡ true → Holds (Goes w) (Among (10 ∷ 11 ∷ 12 ∷ [])) (blockOpened w c min)
+pub opened-goes : (w : World) (c min : ℕ) → Run w → c < w .state .columns → isViews (w .state) c ≡ true → Holds (Goes w) (Among (10 ∷ 11 ∷ 12 ∷ 14 ∷ [])) (blockOpened w c min)
 opened-goes w c min r h y = holds-more (opened-anew w c min r h y) (λ v e. e .goes) (λ n m. m)
 
 -- of a result that is known

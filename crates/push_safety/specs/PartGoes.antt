@@ -19,7 +19,7 @@ use Rattle.push_safety.specs.CompactGoes.{part-compacted-goes}
 use Rattle.push_safety.specs.AttachGoes.{part-attached-goes}
 
 abbrev parts : List ℕ
-parts = 8 ∷ 10 ∷ 11 ∷ 12 ∷ []
+parts = 8 ∷ 10 ∷ 11 ∷ 12 ∷ 14 ∷ []
 
 -- a part of a column, by its way: views go any, other columns are copied
 by-way : (w : World) (b : Batch) (c at from n : ℕ) (z : Way) → Run w → Readable w b → c < w .state .columns → isViews (w .state) c ≡ true → from + n ≤ b .rows → Holds (Goes w) (Among parts) (byWay w b c at from n z)
@@ -27,7 +27,7 @@ by-way w b c at from n Way.Copied r x h y l = held (values-goes b c (filling w) 
 by-way w b c at from n Way.Attached r x h y l = holds-among parts tt (part-attached-goes w b c at from n r x h y)
 by-way w b c at from n Way.Compacted r x h y l = part-compacted-goes w b c at from n r h y l
 
-pub column-goes : (w₀ w : World) (b : Batch) (c from n : ℕ) → Run w → Readable w b → c < w .state .columns → from + n ≤ b .rows → Holds (Goes w) (Among (8 ∷ 10 ∷ 11 ∷ 12 ∷ [])) (columnCopied w₀ w b c from n)
+pub column-goes : (w₀ w : World) (b : Batch) (c from n : ℕ) → Run w → Readable w b → c < w .state .columns → from + n ≤ b .rows → Holds (Goes w) (Among (8 ∷ 10 ∷ 11 ∷ 12 ∷ 14 ∷ [])) (columnCopied w₀ w b c from n)
 unfolding columnCopied
 column-goes w₀ w b c from n r x h l = go (isViews (w .state) c) refl
   where
@@ -44,7 +44,7 @@ column-goes w₀ w b c from n r x h l = go (isViews (w .state) c) refl
     go false y = along-holds (a .goes) (held (values-goes b c (filling v) (w .state .buffered .0) from n (a .goes .run)))
 
 -- a part of every column; and the rows then buffered
-pub part-along : (w₀ w : World) (b : Batch) (from n : ℕ) → Run w → Readable w b → from + n ≤ b .rows → Holds (Along w) (Among (8 ∷ 10 ∷ 11 ∷ 12 ∷ [])) (partCopied w₀ w b from n)
+pub part-along : (w₀ w : World) (b : Batch) (from n : ℕ) → Run w → Readable w b → from + n ≤ b .rows → Holds (Along w) (Among (8 ∷ 10 ∷ 11 ∷ 12 ∷ 14 ∷ [])) (partCopied w₀ w b from n)
 unfolding partCopied
 part-along w₀ w b from n r x l =
     holds-each (w .state .columns) (λ v c. columnCopied w₀ v b c from n) w (along-refl r)
@@ -53,10 +53,10 @@ part-along w₀ w b from n r x l =
     (λ u p. along-trans a p)
     (λ k m. m))
 
-pub part-goes : (w₀ w : World) (b : Batch) (from n : ℕ) → Run w → Readable w b → from + n ≤ b .rows → Holds (Goes w) (Among (8 ∷ 10 ∷ 11 ∷ 12 ∷ [])) (partCopied w₀ w b from n)
+pub part-goes : (w₀ w : World) (b : Batch) (from n : ℕ) → Run w → Readable w b → from + n ≤ b .rows → Holds (Goes w) (Among (8 ∷ 10 ∷ 11 ∷ 12 ∷ 14 ∷ [])) (partCopied w₀ w b from n)
 part-goes w₀ w b from n r x l = holds-more (part-along w₀ w b from n r x l) (λ v a. a .goes) (λ k m. m)
 
-pub taken-goes : (w₀ w : World) (b : Batch) (from n : ℕ) → Run w → Readable w b → from + n ≤ b .rows → Holds (Goes w) (Among (8 ∷ 10 ∷ 11 ∷ 12 ∷ [])) (partTaken w₀ w b from n)
+pub taken-goes : (w₀ w : World) (b : Batch) (from n : ℕ) → Run w → Readable w b → from + n ≤ b .rows → Holds (Goes w) (Among (8 ∷ 10 ∷ 11 ∷ 12 ∷ 14 ∷ [])) (partTaken w₀ w b from n)
 unfolding partTaken
 taken-goes w₀ w b from n r x l =
     holds-bind _ (part-goes w₀ w b from n r x l) (λ v g. held (goes-trans g (buffering-goes _ (g .run))))

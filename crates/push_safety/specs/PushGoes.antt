@@ -27,7 +27,7 @@ use Rattle.push_safety.specs.FinishGoes.{rows-small, finished-goes, full
 use Rattle.push_safety.specs.WholeGoes.{whole-firm}
 
 abbrev steps : List ℕ
-steps = 8 ∷ 9 ∷ 10 ∷ 11 ∷ 12 ∷ []
+steps = 8 ∷ 9 ∷ 10 ∷ 11 ∷ 12 ∷ 14 ∷ []
 
 -- it goes on with n rows buffered
 record GoesTo (w : World) (n : ℕ) (v : World) : Type 0 where
@@ -59,7 +59,7 @@ module _ (w₀ : World) (b : Batch) where
       full : (v : World) → GoesTo w (w .state .buffered .0 + space w) v → v .state .buffered .0 ≤ v .state .target .0
       full v e = omega (arith, e .ends .buffered, ap (λ z. z .0) (e .ends .kept .set-up .target))
 
-  pub coalesced-goes : (turns : ℕ) (w : World) (from : ℕ) → Run w → Readable w b → from ≤ b .rows → w .state .buffered .0 ≤ w .state .target .0 → Holds (Goes w) (Among (8 ∷ 9 ∷ 10 ∷ 11 ∷ 12 ∷ [])) (coalesced turns w₀ w b from)
+  pub coalesced-goes : (turns : ℕ) (w : World) (from : ℕ) → Run w → Readable w b → from ≤ b .rows → w .state .buffered .0 ≤ w .state .target .0 → Holds (Goes w) (Among (8 ∷ 9 ∷ 10 ∷ 11 ∷ 12 ∷ 14 ∷ [])) (coalesced turns w₀ w b from)
   unfolding coalesced
   coalesced-goes zero w from r x l t = last-goes w from r x l
   coalesced-goes (suc turns) w from r x l t =
@@ -76,7 +76,7 @@ module _ (w₀ : World) (b : Batch) where
 
 -- ---- the steps of a push
 
-pub stepped-goes : (w : World) (b : Batch) → Run w → Readable w b → w .state .buffered .0 ≤ w .state .target .0 → Holds (FirmGoes w) (Among (8 ∷ 9 ∷ 10 ∷ 11 ∷ 12 ∷ [])) (stepped w b)
+pub stepped-goes : (w : World) (b : Batch) → Run w → Readable w b → w .state .buffered .0 ≤ w .state .target .0 → Holds (FirmGoes w) (Among (8 ∷ 9 ∷ 10 ∷ 11 ∷ 12 ∷ 14 ∷ [])) (stepped w b)
 unfolding stepped
 stepped-goes w b r x t =
     go (overLimit (w .state .limit) (b .rows)) refl (eqb (w .state .buffered .0) 0) refl (overLimit (w .state .limit) (w .state .buffered .0)) refl

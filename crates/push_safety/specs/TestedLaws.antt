@@ -1,14 +1,15 @@
 -- A state that passes the tests of a call, with books of bytes, may be pushed to.
 use Prim.Native.Nat.{ℕ, _+_, _≤_, _<_}
-use mathlib.Core.Path.{_≡_, refl}
-use mathlib.Core.Bool.{Bool, true, false, cond, and-eq-true-iff}
+use mathlib.Core.Path.{_≡_, refl, sym}
+use mathlib.Core.Bool.{Bool, true, false, not, cond, and-eq-true-iff, true≢false}
+use mathlib.Core.List.{List}
 use native.Mathlib.Omega.{arith}
 use lib.ListN.{length}
 use lib.Dec.{ltb, leb}
 use borrow.Author.Tests.{ltb-true, leb-true, eqb-true}
 use Rattle.search.specs.Every.{every, every-says}
 use Rattle.words.specs.WordLaws.{Bytes}
-use Rattle.books.specs.Entry.{usedOf}
+use Rattle.books.specs.Entry.{usedOf, entryOf, isFree, isFreeAt}
 use Rattle.pool.specs.Read.{inRange}
 use Rattle.pool.specs.ReadLaws.{range-says}
 use Rattle.counts.specs.declared.BufferNumber.{BufferNumber}
@@ -17,7 +18,7 @@ use Rattle.state.specs.declared.OpenBlock.{OpenBlock}
 use Rattle.state.specs.World.{World, columnOf}
 use Rattle.state.specs.Layout.{isViews, slotsLength, booksLength, listLength, rowsIn}
 use Rattle.kinds.specs.Kind.{widthAt}
-use Rattle.rules.specs.Ranges.{isKind, between, inBounds, fitsSetUp, blockInRange, columnInRange, listInRange, slotInRange, stateInRange, tested}
+use Rattle.rules.specs.Ranges.{isKind, between, inBounds, fitsSetUp, hasOpen, blockInRange, columnInRange, listInRange, slotInRange, stateInRange, tested}
 use Rattle.rules.specs.TestLaws.{TestedCase, notSetUp, outOfRange, passed, tested-case, range-counted}
 use Rattle.push_safety.specs.Run.{Run}
 
@@ -104,18 +105,46 @@ list-say w slot c e h =
 -- a column of views
 record ColumnRanged (w : World) (c : ℕ) : Type 0 where
   kept : 4096 ≤ columnOf (w .state) c .source .current .0
-  block : blockInRange (usedOf (w .books)) (listLength w (w .state .place) c) (w .state .lists) (columnOf (w .state) c .block) ≡ true
+  block : blockInRange (w .state) (w .books) (listLength w (w .state .place) c) c (columnOf (w .state) c .block) ≡ true
 
 column-say : (w : World) (c : ℕ) → columnInRange w c ≡ true → isViews (w .state) c ≡ true → ColumnRanged w c
 unfolding columnInRange
 column-say w c e v =
-    let a = and-eq-true-iff (between 4096 (columnOf (w .state) c .source .current .0) 1048576) (blockInRange (usedOf (w .books)) (listLength w (w .state .place) c) (w .state .lists) (columnOf (w .state) c .block)) .0 (rw v at e) in
+    let a = and-eq-true-iff (between 4096 (columnOf (w .state) c .source .current .0) 1048576) (blockInRange (w .state) (w .books) (listLength w (w .state .place) c) c (columnOf (w .state) c .block)) .0 (rw v at e) in
     record { kept = between-says _ _ _ (a .0) .0; block = a .1 }
 
-block-say : (used list room : ℕ) (o : OpenBlock) (k : BufferNumber) → blockInRange used list room o ≡ true → o ≡ OpenBlock.Number k → (k .0 < used) × (list < room)
-block-say used list room o k e q =
-    let a = and-eq-true-iff (ltb (k .0) used) (ltb list room) .0 (rw q at e) in
-    (ltb-true (k .0) used (a .0), ltb-true list room (a .1))
+-- its open block k: a number in use, with a place in the list, and open in no column before
+pub record BlockRanged (w : World) (c k : ℕ) : Type 0 where
+  pub used : k < usedOf (w .books)
+  pub live : isFree (entryOf (w .books) k) ≡ false
+  pub room : listLength w (w .state .place) c < w .state .lists
+  pub first : (d : ℕ) → d < c → hasOpen (w .state) k d ≡ false
+
+not-free : (books : List ℕ) (k : ℕ) → not (isFreeAt books k) ≡ true → (k < usedOf books) × (isFree (entryOf books k) ≡ false)
+unfolding isFreeAt
+not-free books k = go (ltb k (usedOf books)) refl (isFree (entryOf books k)) refl
+  where
+    go : (b : Bool) → ltb k (usedOf books) ≡ b → (f : Bool) → isFree (entryOf books k) ≡ f → not (cond b f true) ≡ true → (k < usedOf books) × (isFree (entryOf books k) ≡ false)
+    go true e false f h = (ltb-true _ _ e, f)
+    go true e true f h = absurd (true≢false (sym h))
+    go false e f g h = absurd (true≢false (sym h))
+
+not-true : (b : Bool) → not b ≡ true → b ≡ false
+not-true false e = refl
+not-true true e = absurd (true≢false (sym e))
+
+block-say : (w : World) (c : ℕ) (o : OpenBlock) (k : BufferNumber) → blockInRange (w .state) (w .books) (listLength w (w .state .place) c) c o ≡ true → o ≡ OpenBlock.Number k → BlockRanged w c (k .0)
+block-say w c o k e q =
+    let a = and-eq-true-iff (ltb (k .0) (w .state .numbers)) _ .0 (rw q at e) in
+    let b = and-eq-true-iff (not (isFreeAt (w .books) (k .0))) _ .0 (a .1) in
+    let d = and-eq-true-iff (ltb (listLength w (w .state .place) c) (w .state .lists)) _ .0 (b .1) in
+    let f = not-free (w .books) (k .0) (b .0) in
+    record {
+      used = f .0;
+      live = f .1;
+      room = ltb-true _ _ (d .0);
+      first = λ i l. not-true _ (every-says (λ i. not (hasOpen (w .state) (k .0) i)) c (d .1) i l);
+    }
 
 -- ---- the law
 
@@ -147,8 +176,8 @@ tested-run w e bytes = go (tested-case w)
           lists = λ slot c l h. at-most slot c (list slot c l h) (isViews (w .state) c) refl;
           none = λ slot c l h v. let z : listLength w slot c ≤ 0 = rw v at (list slot c l h) in omega arith;
           kept = λ c h v. omega (arith, column c h v .kept);
-          block = λ c k h v o. block-say _ _ _ _ k (column c h v .block) o .0;
-          room = λ c k h v o. block-say _ _ _ _ k (column c h v .block) o .1;
+          block = λ c k h v o. block-say w c _ k (column c h v .block) o .used;
+          room = λ c k h v o. block-say w c _ k (column c h v .block) o .room;
         }
       where
         at-most : (slot c : ℕ) → listLength w slot c ≤ cond (isViews (w .state) c) (w .state .lists) 0 → (x : Bool) → isViews (w .state) c ≡ x → listLength w slot c ≤ w .state .lists
@@ -159,3 +188,13 @@ tested-run w e bytes = go (tested-case w)
     go (notSetUp p z) = absurd (omega arith)
     go (outOfRange p q z) = absurd (omega arith)
     go (passed p q z) = by-range p q
+
+-- and each open block is in its range
+pub tested-block : (w : World) → tested w ≡ 0 → (c k : ℕ) → c < w .state .columns → isViews (w .state) c ≡ true → columnOf (w .state) c .block ≡ OpenBlock.Number (record { 0 = k }) → BlockRanged w c k
+tested-block w e c k h v o = go (tested-case w)
+  where
+    go : TestedCase w → BlockRanged w c k
+    go (notSetUp p z) = absurd (omega arith)
+    go (outOfRange p q z) = absurd (omega arith)
+    go (passed p q z) =
+        block-say w c _ (record { 0 = k }) (column-say w c (every-says (columnInRange w) (w .state .columns) (range-say w q .columns) c h) v .block) o

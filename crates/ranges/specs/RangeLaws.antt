@@ -1,29 +1,30 @@
 -- The ways out of the test of 14, the turns of its loops, and the places that it reads.
 use Prim.Native.Nat.{ℕ, zero, suc, _+_, _*_, _≤_, _<_}
-use mathlib.Core.Path.{_≡_, refl, sym, _∙_}
-use mathlib.Core.Bool.{Bool, true, false, _&&_, cond}
+use mathlib.Core.Path.{_≡_, refl, sym, _∙_, ap}
+use mathlib.Core.Bool.{Bool, true, false, _&&_, not, cond}
 use mathlib.Core.List.{List, []}
 use native.Mathlib.Omega.{arith}
 use native.Mathlib.Nat.{mul-le-mul-left}
-use lib.ListN.{length}
+use lib.ListN.{length, getD}
 use lib.Dec.{ltb, leb}
-use borrow.Author.Tests.{lt-ltb, le-ltb, le-leb, lt-leb}
+use borrow.Author.Tests.{lt-ltb, le-ltb, le-leb, lt-leb, eq-eqb, ne-eqb}
 use Rattle.search.specs.Every.{every, All, all-none, all-more, all-fails, all-done}
 use Rattle.words.specs.Word.{word32}
 use Rattle.tallies.specs.declared.Tally.{Tally}
 use Rattle.tallies.specs.Tally.{tallyPlace, tallyOf}
-use Rattle.books.specs.Entry.{usedOf}
+use Rattle.books.specs.declared.Entry.{Entry}
+use Rattle.books.specs.Entry.{usedOf, entryOf, isFree, isFreeAt}
 use Rattle.kinds.specs.Kind.{isView}
 use Rattle.pool.specs.Read.{inRange}
 use Rattle.counts.specs.declared.BufferNumber.{BufferNumber}
 use Rattle.state.specs.declared.BatchCoalescer.{BatchCoalescer}
 use Rattle.state.specs.declared.Column.{Column}
 use Rattle.state.specs.declared.OpenBlock.{OpenBlock}
-use Rattle.state.specs.World.{world, columnOf}
+use Rattle.state.specs.World.{world, noColumn, columnOf}
 use Rattle.state.specs.Layout.{isViews, listPlace, slotsLength, booksLength, tally, rowsIn, listLength}
 use Rattle.layout.specs.PlaceLaws.{list-room}
-use Rattle.rules.specs.Ranges.{between, blockInRange, columnInRange, listInRange, slotInRange, stateInRange, tested}
-use Rattle.ranges.specs.Tested.{fitsLengths, below}
+use Rattle.rules.specs.Ranges.{between, isBlock, hasOpen, blockInRange, columnInRange, listInRange, slotInRange, stateInRange, tested}
+use Rattle.ranges.specs.Tested.{fitsLengths, opensIn, notOpen, below}
 
 -- the entries lie in the books, and the word before them
 module _ (s : BatchCoalescer) {L : ℕ} (e : L ≡ booksLength s) where
@@ -34,16 +35,79 @@ module _ (s : BatchCoalescer) {L : ℕ} (e : L ≡ booksLength s) where
   pub used-room : 0 + 4 ≤ L
   used-room = omega (arith, entries-room)
 
+  pub number-room : {k : ℕ} → k < s .numbers → 24 + 20 * k ≤ L
+  number-room h = omega (arith, entries-room)
+
+-- in_use
+module _ (books : List ℕ) {k u : ℕ} (p : u ≡ word32 books 0) where
+  pub use-not : u ≤ k → false ≡ not (isFreeAt books k)
+  unfolding isFreeAt usedOf
+  use-not h = rw (← p, le-ltb k u h)
+
+  module _ (h : k < u) {e : Entry} {r : Bool} (q : e ≡ entryOf books k) (t : r ≡ isFree e) where
+    pub use-free : r ≡ true → false ≡ not (isFreeAt books k)
+    unfolding isFreeAt usedOf
+    use-free x = rw (← p, lt-ltb k u h, ← q, ← t, x)
+
+    pub use-live : r ≡ false → true ≡ not (isFreeAt books k)
+    unfolding isFreeAt usedOf
+    use-live x = rw (← p, lt-ltb k u h, ← q, ← t, x)
+
+-- has_open
+module _ (column : Column) (k : ℕ) {b : OpenBlock} (p : b ≡ column .block) where
+  none : (v : Bool) → false ≡ (v && false)
+  none false = refl
+  none true = refl
+
+  all : (v : Bool) → v ≡ (v && true)
+  all false = refl
+  all true = refl
+
+  pub opens-closed : b ≡ OpenBlock.Closed → false ≡ opensIn column k
+  unfolding opensIn
+  opens-closed e = rw (← p, e) (none (isView (column .kind)))
+
+  module _ {j : BufferNumber} (e : b ≡ OpenBlock.Number j) where
+    pub opens-other : (j .0 ≡ k → ⊥) → false ≡ opensIn column k
+    unfolding opensIn
+    opens-other n = rw (← p, e, ne-eqb (j .0) k n) (none (isView (column .kind)))
+
+    pub opens-here : {r : Bool} → j .0 ≡ k → r ≡ isView (column .kind) → r ≡ opensIn column k
+    unfolding opensIn
+    opens-here y q = rw (← p, e, eq-eqb (j .0) k y, q) (all (isView (column .kind)))
+
+-- none_before
+module _ (s : BatchCoalescer) (k : ℕ) where
+  pub before-none : All (notOpen s k) 0
+  before-none = all-none (notOpen s k)
+
+  opens-is : (d : ℕ) {r : Bool} → r ≡ opensIn (getD (s .column) d noColumn) k → r ≡ hasOpen s k d
+  unfolding opensIn hasOpen isViews columnOf
+  opens-is d q = q
+
+  pub before-more : (d : ℕ) {r : Bool} → All (notOpen s k) d → r ≡ opensIn (getD (s .column) d noColumn) k → r ≡ false → All (notOpen s k) (d + 1)
+  unfolding notOpen
+  before-more d a q x = all-more a (ap not (sym (opens-is d q) ∙ x))
+
+  pub before-fails : (c d : ℕ) {r : Bool} → d < c → r ≡ opensIn (getD (s .column) d noColumn) k → r ≡ true → false ≡ every (notOpen s k) c
+  unfolding notOpen
+  before-fails c d h q x = all-fails (notOpen s k) c d h (ap not (sym (opens-is d q) ∙ x))
+
+  pub before-done : (c d : ℕ) → All (notOpen s k) d → c ≤ d → true ≡ every (notOpen s k) c
+  before-done c d a h = all-done c a h
+
 -- block_in_range
-module _ (used list room : ℕ) {b : OpenBlock} where
-  pub block-closed : b ≡ OpenBlock.Closed → true ≡ blockInRange used list room b
+module _ (s : BatchCoalescer) (books : List ℕ) (list c : ℕ) {b : OpenBlock} where
+  pub block-closed : b ≡ OpenBlock.Closed → true ≡ blockInRange s books list c b
   block-closed e = rw e
 
-  pub block-last : {k : BufferNumber} → b ≡ OpenBlock.Number k → k .0 < used → ltb list room ≡ blockInRange used list room b
-  block-last {k} e h = rw (e, lt-ltb (k .0) used h)
+  module _ {k : BufferNumber} (e : b ≡ OpenBlock.Number k) where
+    pub block-past : s .numbers ≤ k .0 → false ≡ blockInRange s books list c b
+    block-past h = rw (e, le-ltb (k .0) (s .numbers) h)
 
-  pub block-past : {k : BufferNumber} → b ≡ OpenBlock.Number k → used ≤ k .0 → false ≡ blockInRange used list room b
-  block-past {k} e h = rw (e, le-ltb (k .0) used h)
+    pub block-is : {a r : Bool} → k .0 < s .numbers → a ≡ not (isFreeAt books (k .0)) → r ≡ every (notOpen s (k .0)) c → (a && (ltb list (s .lists) && r)) ≡ blockInRange s books list c b
+    unfolding notOpen
+    block-is h p t = rw (e, lt-ltb (k .0) (s .numbers) h, p, t)
 
 -- column_in_range and columns_in_range
 module _ (s : BatchCoalescer) (books : List ℕ) (c : ℕ) {k : Column} {v : Bool} (q : k ≡ columnOf s c) (p : v ≡ isView (k .kind)) where
@@ -56,9 +120,9 @@ module _ (s : BatchCoalescer) (books : List ℕ) (c : ℕ) {k : Column} {v : Boo
     unfolding columnInRange isViews
     column-size y = rw (← q, ← p, x, ← r, y)
 
-    pub column-last : {u l : ℕ} {b : Bool} → a ≡ true → u ≡ word32 books 0 → l ≡ listLength (world s [] [] books) (s .place) c → b ≡ blockInRange u l (s .lists) (k .block) → b ≡ columnInRange (world s [] [] books) c
-    unfolding columnInRange isViews usedOf
-    column-last y h i j = rw (← q, ← p, x, ← r, y, ← h, ← i) j
+    pub column-last : {l : ℕ} {o : OpenBlock} {b : Bool} → a ≡ true → l ≡ listLength (world s [] [] books) (s .place) c → o ≡ k .block → b ≡ blockInRange s books l c o → b ≡ columnInRange (world s [] [] books) c
+    unfolding columnInRange isViews
+    column-last y i h j = rw (← q, ← p, x, ← r, y, ← h, ← i) j
 
 module _ (s : BatchCoalescer) (books : List ℕ) where
   pub columns-none : All (columnInRange (world s [] [] books)) 0

@@ -1,6 +1,6 @@
 -- What the tests of 1 and 14 say, over numbers and lists as a caller has them: r is what `tested` answered.
 use Prim.Native.Nat.{ℕ, _+_, _*_, _≤_, _<_}
-use mathlib.Core.Path.{_≡_, sym, _∙_, ap}
+use mathlib.Core.Path.{_≡_, sym, _∙_}
 use mathlib.Core.Bool.{Bool, true, false, cond, and-eq-true-iff}
 use mathlib.Core.List.{List, []}
 use native.Mathlib.Omega.{arith}
@@ -13,18 +13,15 @@ use Rattle.books.specs.declared.Entry.{Entry}
 use Rattle.books.specs.Entry.{usedOf, entryOf}
 use Rattle.pool.specs.Read.{inRange}
 use Rattle.pool.specs.ReadLaws.{Ranged, range-says}
-use Rattle.counts.specs.declared.BufferNumber.{BufferNumber}
 use Rattle.state.specs.declared.BatchCoalescer.{BatchCoalescer}
-use Rattle.state.specs.declared.Column.{Column}
-use Rattle.state.specs.declared.OpenBlock.{OpenBlock}
-use Rattle.state.specs.World.{World, world, columnOf}
+use Rattle.state.specs.World.{World, world}
 use Rattle.state.specs.Layout.{isViews, listPlace, slotsLength, booksLength, rowsIn, listLength}
 use Rattle.layout.specs.Few.{Few}
 use Rattle.layout.specs.PlaceLaws.{entry-room}
-use Rattle.rules.specs.Ranges.{between, blockInRange, columnInRange, listInRange, slotInRange, fitsSetUp, stateInRange, tested}
+use Rattle.rules.specs.Ranges.{columnInRange, listInRange, slotInRange, fitsSetUp, stateInRange, tested}
 use Rattle.rules.specs.TestLaws.{TestedCase, notSetUp, outOfRange, passed, tested-case}
 use Rattle.ranges.specs.Tested.{fitsLengths, Sized}
-use Rattle.ranges.specs.BoundsLaws.{FitsSetUp, fits-says, between-says}
+use Rattle.ranges.specs.BoundsLaws.{FitsSetUp, fits-says}
 use Rattle.ranges.specs.RangeLaws.{entries-room}
 
 -- the parts of 14
@@ -61,17 +58,7 @@ both-pass w z = go (tested-case w)
     go (outOfRange p q t) = absurd (omega arith)
     go (passed p q t) = (p, q)
 
--- a column, a slot and a list of it
-record Shaped (s : BatchCoalescer) (books : List ℕ) (c : ℕ) : Type 0 where
-  size : (4096 ≤ columnOf s c .source .current .0) × (columnOf s c .source .current .0 ≤ 1048576)
-  block : blockInRange (usedOf books) (listLength (world s [] [] books) (s .place) c) (s .lists) (columnOf s c .block) ≡ true
-
-column-says : (s : BatchCoalescer) (slots pool books : List ℕ) (c : ℕ) → columnInRange (world s slots pool books) c ≡ true → isViews s c ≡ true → Shaped s books c
-unfolding columnInRange listLength
-column-says s slots pool books c t v =
-    let a = and-eq-true-iff (between 4096 (columnOf s c .source .current .0) 1048576) (blockInRange (usedOf books) (listLength (world s [] [] books) (s .place) c) (s .lists) (columnOf s c .block)) .0 (rw v at t) in
-    record { size = between-says 4096 (columnOf s c .source .current .0) 1048576 (a .0); block = a .1 }
-
+-- a list of a slot
 record ListSays (s : BatchCoalescer) (slots books : List ℕ) (slot c : ℕ) : Type 0 where
   count : listLength (world s [] [] books) slot c ≤ cond (isViews s c) (s .lists) 0
   numbers : (i : ℕ) → i < listLength (world s [] [] books) slot c → word32 slots (listPlace s slot c + 4 * i) < s .numbers
@@ -217,32 +204,6 @@ module _ (s : BatchCoalescer) (slots pool books : List ℕ) {r : ℕ} (e : r ≡
 
     pub says-number : (j : ℕ) {at k : ℕ} → at ≡ listPlace s i c → k ≡ word32 slots (at + 4 * j) → j < n → k < s .numbers
     says-number j q t m = rw (t, q) (slot i h .1 c l .numbers j (omega arith))
-
-  -- each column of views: its block size, and its open block
-  module _ (c : ℕ) {k : Column} (q : k ≡ columnOf s c) (l : c < s .columns) (v : isViews s c ≡ true) where
-    shaped : Shaped s books c
-    shaped = column-says s slots pool books c (every-says (columnInRange (world s slots pool books)) (s .columns) (ranged .columns) c l) v
-
-    pub says-least : 4096 ≤ k .source .current .0
-    says-least = rw q (shaped .size .0)
-
-    pub says-most : k .source .current .0 ≤ 1048576
-    says-most = rw q (shaped .size .1)
-
-    -- b is the open block, of number j
-    module _ {b : OpenBlock} {j : BufferNumber} (t : b ≡ k .block) (u : b ≡ OpenBlock.Number j) where
-      open-block : (j .0 < usedOf books) × (listLength (world s [] [] books) (s .place) c < s .lists)
-      open-block =
-          let m = listLength (world s [] [] books) (s .place) c in
-          let o : columnOf s c .block ≡ OpenBlock.Number j = ap (λ (x : Column). x .block) (sym q) ∙ sym t ∙ u in
-          let a = and-eq-true-iff (ltb (j .0) (usedOf books)) (ltb m (s .lists)) .0 (rw o at (shaped .block)) in
-          (ltb-true _ _ (a .0), ltb-true _ _ (a .1))
-
-      pub says-block : j .0 < usedOf books
-      says-block = open-block .0
-
-      pub says-block-room : {n : ℕ} → n ≡ listLength (world s [] [] books) (s .place) c → n < s .lists
-      says-block-room p = rw p (open-block .1)
 
 -- the counts do not look at slots and pool
 pub rows-any : (s : BatchCoalescer) (slots pool books : List ℕ) (i : ℕ) {n : ℕ} → n ≡ rowsIn (world s [] [] books) i → n ≡ rowsIn (world s slots pool books) i

@@ -1,14 +1,17 @@
 // The tests that every call after set-up begins with: 1, the bounds and lengths of set-up; 14, the ranges of the state.
 ghost use mathlib.Core.Path.{_≡_};
+ghost use mathlib.Core.Bool.{not};
 ghost use mathlib.Core.List.{[]};
 ghost use Prim.Native.Nat.{_+_, _*_, _≤_, _<_};
 ghost use lib.ListN.{length};
 ghost use Rattle.search.specs.Every.{every};
+ghost use Rattle.books.specs.Entry.{isFreeAt};
 ghost use Rattle.state.specs.World.{world, columnOf};
 ghost use Rattle.state.specs.Layout.{slotsLength, booksLength};
 ghost use Rattle.layout.specs.Few.{Few};
 ghost use Rattle.rules.specs.Ranges.{inBounds, blockInRange, columnInRange, listInRange, slotInRange, stateInRange, tested};
-ghost use Rattle.ranges.specs.Tested.{kindsKnown, fitsLengths, below, Sized};
+ghost use Rattle.ranges.specs.Tested.{kindsKnown, fitsLengths, opensIn, notOpen, below, Sized};
+use counts::BufferNumber;
 use kinds::Width;
 use state::BatchCoalescer;
 use state::Column;
@@ -66,13 +69,67 @@ pub fn fits_set_up(s: BatchCoalescer, slots: usize, pool: usize, books: usize) -
     }
 }
 
-// 14, an open block: its number is in use, and its list has a place for it.
-fn block_in_range(used: u32, list: u32, room: u32, block: OpenBlock) -> bool
-    ensures { λ r. ⌜ r ≡ blockInRange used list room block ⌝ }
+// Whether number k is a buffer in use.
+fn in_use(books: &[u8], k: BufferNumber) -> bool
+    requires { ⌜ 24 + 20 * k .0 ≤ length (now books) ⌝ }
+    ensures { λ r. ⌜ r ≡ not (isFreeAt (now (books .entry)) (k .0)) ⌝ }
+{
+    if k.0 < words::get32(books, 0) {
+        let e = books::entry_at(books, k.0 as usize);
+        if books::is_free(e) { false } else { true }
+    } else {
+        false
+    }
+}
+
+// Whether a column of views has block k open.
+fn has_open(column: Column, k: BufferNumber) -> bool
+    ensures { λ r. ⌜ r ≡ opensIn column (k .0) ⌝ }
+{
+    let block = column.block;
+    match block {
+        OpenBlock::Closed => false,
+        OpenBlock::Number(j) => {
+            if j.0 == k.0 {
+                kinds::is_view(column.kind)
+            } else {
+                false
+            }
+        }
+    }
+}
+
+// Whether no column before c has block k open.
+fn none_before(s: BatchCoalescer, c: u32, k: BufferNumber) -> bool
+    requires { ⌜ c ≤ 16 ⌝ }
+    ensures { λ r. ⌜ r ≡ every (notOpen s (k .0)) c ⌝ }
+{
+    let mut d: u32 = 0;
+    while d < c {
+        let at = d as usize;
+        let column = s.column[at];
+        if has_open(column, k) {
+            return false;
+        }
+        d += 1;
+    }
+    true
+}
+
+// 14, an open block of column c: its number is below N and in use, its list has a place for it, and no column before has it open.
+fn block_in_range(s: BatchCoalescer, books: &[u8], list: u32, c: u32, block: OpenBlock) -> bool
+    requires { ⌜ (c ≤ 16) × (length (now books) ≡ booksLength s) ⌝ }
+    ensures { λ r. ⌜ r ≡ blockInRange s (now (books .entry)) list c block ⌝ }
 {
     match block {
         OpenBlock::Closed => true,
-        OpenBlock::Number(k) => { if k.0 < used { list < room } else { false } }
+        OpenBlock::Number(k) => {
+            if k.0 < s.numbers {
+                in_use(books, k) & ((list < s.lists) & none_before(s, c, k))
+            } else {
+                false
+            }
+        }
     }
 }
 
@@ -83,10 +140,9 @@ fn column_in_range(s: BatchCoalescer, books: &[u8], c: u32, column: Column) -> b
 {
     if kinds::is_view(column.kind) {
         if between(4096, column.source.current.0, 1048576) {
-            let used = words::get32(books, 0);
             let list = slot_counts::list_length(s, books, s.place, c);
             let block = column.block;
-            block_in_range(used, list, s.lists, block)
+            block_in_range(s, books, list, c, block)
         } else {
             false
         }

@@ -1,10 +1,13 @@
 -- The number and the start that a buffer gets, and what opening it makes of the books.
 use Prim.Native.Nat.{ℕ}
 use mathlib.Core.Path.{_≡_}
+use mathlib.Core.Bool.{Bool, _&&_, cond}
 use mathlib.Core.List.{List}
+use lib.Dec.{eqb}
 use Rattle.books.specs.declared.Entry.{Entry}
 use Rattle.books.specs.declared.Found.{Found}
 use Rattle.books.specs.declared.Gap.{Gap}
+use Rattle.books.specs.Entry.{entryOf, isFree}
 use Rattle.books.specs.Search.{lowestFree, lowestGap}
 use Rattle.listings.specs.Listing.{taken}
 use Rattle.room.specs.declared.Room.{Room}
@@ -24,6 +27,18 @@ orRefused (Found.At k) (Gap.Start at) = Chosen.At (record { number = k; start = 
 -- the lowest free number and the lowest start. 01: "gets the lowest free number", "at the lowest start"
 unfoldable pub chosen : List ℕ → ℕ → ℕ → ℕ → Chosen
 chosen s n pool capacity = orRefused (lowestFree s n) (lowestGap s pool capacity)
+
+-- an entry of zeros. 01: "it is free, its entry in the books is zero"
+unfoldable pub isZero : Entry → Bool
+isZero e = eqb (e .start) 0 && (eqb (e .capacity .0) 0 && (eqb (e .length .0) 0 && isFree e))
+
+-- the room for a block: the same; and 14 where the free number's entry is not zero, which no history leaves (DECISIONS 11)
+abbrev pub ifZero : List ℕ → Chosen → Chosen
+ifZero s (Chosen.Refused number) = Chosen.Refused number
+ifZero s (Chosen.At r) = cond (isZero (entryOf s (r .number .0))) (Chosen.At r) (Chosen.Refused 14)
+
+unfoldable pub blockRoom : List ℕ → ℕ → ℕ → ℕ → Chosen
+blockRoom s n pool capacity = ifZero s (chosen s n pool capacity)
 
 -- an entry at a start, with its length, hold and listings
 abbrev pub entryAt : ℕ → ℕ → ℕ → ℕ → ℕ → Entry
@@ -48,7 +63,7 @@ takenFor s capacity hold listings (Chosen.At r) =
     record { answer = Chosen.At r; books = taken s (r .number .0) (entryAt (r .start) capacity 0 hold listings) }
 
 unfoldable pub openedAs : List ℕ → ℕ → ℕ → ℕ → ℕ → ℕ → Outcome
-openedAs s n pool capacity hold listings = takenFor s capacity hold listings (chosen s n pool capacity)
+openedAs s n pool capacity hold listings = takenFor s capacity hold listings (blockRoom s n pool capacity)
 
 -- 01: "A block opened by the port has no caller's hold."; "The open block counts as listed."
 unfoldable pub opened : List ℕ → ℕ → ℕ → ℕ → Outcome

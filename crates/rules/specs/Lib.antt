@@ -1,5 +1,6 @@
 -- Document 01 as definitions, and the laws that later proofs cite.
 pub mod Batch
+pub mod Validity
 pub mod Checks
 pub mod Ranges
 pub mod Copies

@@ -13,7 +13,8 @@ use Rattle.books.specs.declared.Gap.{Gap}
 use Rattle.books.specs.Search.{lowestFree, lowestGap}
 use Rattle.listings.specs.Listing.{listedOne}
 use Rattle.room.specs.declared.Chosen.{Chosen}
-use Rattle.room.specs.Room.{orRefused, chosen, opened}
+use Rattle.room.specs.Room.{orRefused, chosen, blockRoom, opened}
+use Rattle.room.specs.RoomLaws.{block-refusal}
 use Rattle.words.specs.WordLaws.{length-withWord32}
 use Rattle.words.specs.RunLaws.{length-lay}
 use Rattle.views.specs.StoreLaws.{length-withView}
@@ -30,7 +31,7 @@ use Rattle.rules.specs.Steps.{Res, counting, listing}
 use Rattle.rules.specs.Views.{filling, bitsLaid, valuesLaid, bitsCopied, valuesCopied, isOpen, openNumber, openFilled, openRest, closed, opening, blockOpened, viewsFrom, viewsCompacted, walked, partCompacted, listAttached, viewsRaised, partAttached, byWay, columnCopied, partCopied}
 use Rattle.rules.specs.Copies.{startsFit}
 use Rattle.rules.specs.CopyLaws.{length-viewsPut, length-bytesCarried}
-use Rattle.rules.specs.Held.{Among, one-of, Holds, held, refused, holds-more, holds-bind, holds-cond, holds-each, holds-among}
+use Rattle.rules.specs.Held.{Among, one-of, among-more, Holds, held, refused, holds-more, holds-bind, holds-cond, holds-each, holds-among}
 use Rattle.rules.specs.SizeLaws.{length-withLength, length-listedOne, length-overList, length-opened}
 use Rattle.rules.specs.Stays.{same-column, Beside, beside-refl, beside-trans, each-beside, beside-state}
 
@@ -69,7 +70,7 @@ closed-beside w c =
     })
     (λ h. beside-refl w)
 
--- a block opened
+-- a room chosen
 chosen-number : (f : Found) (g : Gap) (n : ℕ) → orRefused f g ≡ Chosen.Refused n → Among (11 ∷ 12 ∷ []) n
 chosen-number Found.Nothing g n e = let q : 11 ≡ n = cc in rw (← q) (one-of (11 ∷ 12 ∷ []) 11 tt)
 chosen-number (Found.At k) Gap.Nothing n e = let q : 12 ≡ n = cc in rw (← q) (one-of (11 ∷ 12 ∷ []) 12 tt)
@@ -79,7 +80,14 @@ pub chosen-among : (s : List ℕ) (m pool capacity n : ℕ) → chosen s m pool 
 unfolding chosen
 chosen-among s m pool capacity n e = chosen-number (lowestFree s m) (lowestGap s pool capacity) n e
 
-by-answer : (w : World) (c min : ℕ) (a : Chosen) (s : List ℕ) → ((n : ℕ) → a ≡ Chosen.Refused n → Among (11 ∷ 12 ∷ []) n) → length s ≡ length (w .books) → Holds (Beside w) (Among (11 ∷ 12 ∷ [])) (opening w c min (record { answer = a; books = s }))
+-- a block opened: those, and 14
+pub block-among : (s : List ℕ) (m pool capacity n : ℕ) → blockRoom s m pool capacity ≡ Chosen.Refused n → Among (11 ∷ 12 ∷ 14 ∷ []) n
+block-among s m pool capacity n e =
+    block-refusal s m pool capacity {P = Among (11 ∷ 12 ∷ 14 ∷ [])} n e
+    (λ k q. among-more (11 ∷ 12 ∷ 14 ∷ []) tt (chosen-among s m pool capacity k q))
+    (one-of (11 ∷ 12 ∷ 14 ∷ []) 14 tt)
+
+by-answer : (w : World) (c min : ℕ) (a : Chosen) (s : List ℕ) → ((n : ℕ) → a ≡ Chosen.Refused n → Among (11 ∷ 12 ∷ 14 ∷ []) n) → length s ≡ length (w .books) → Holds (Beside w) (Among (11 ∷ 12 ∷ 14 ∷ [])) (opening w c min (record { answer = a; books = s }))
 by-answer w c min (Chosen.Refused n) s f l = refused (f n refl)
 by-answer w c min (Chosen.At r) s f l =
     held
@@ -93,15 +101,15 @@ by-answer w c min (Chosen.At r) s f l =
       books = l;
     })
 
-pub opened-holds : (w : World) (c min : ℕ) → Holds (Beside w) (Among (10 ∷ 11 ∷ 12 ∷ [])) (blockOpened w c min)
+pub opened-holds : (w : World) (c min : ℕ) → Holds (Beside w) (Among (10 ∷ 11 ∷ 12 ∷ 14 ∷ [])) (blockOpened w c min)
 unfolding blockOpened
 opened-holds w c min =
     holds-cond (leb (listLength w (filling w) c + 1) (w .state .lists))
-    (λ h. holds-among (10 ∷ 11 ∷ 12 ∷ []) tt
+    (λ h. holds-among (10 ∷ 11 ∷ 12 ∷ 14 ∷ []) tt
     (by-answer w c min (opened (w .books) (w .state .numbers) (length (w .pool)) size .answer) _
-    (λ n e. chosen-among (w .books) (w .state .numbers) (length (w .pool)) size n (sym (opened-answer _ _ _ _) ∙ e))
+    (λ n e. block-among (w .books) (w .state .numbers) (length (w .pool)) size n (sym (opened-answer _ _ _ _) ∙ e))
     (length-opened (w .books) (w .state .numbers) (length (w .pool)) size)))
-    (λ h. refused (one-of (10 ∷ 11 ∷ 12 ∷ []) 10 tt))
+    (λ h. refused (one-of (10 ∷ 11 ∷ 12 ∷ 14 ∷ []) 10 tt))
   where
     size : ℕ
     size = asked (columnOf (w .state) c .source) (record { 0 = min }) .size .0
@@ -119,10 +127,10 @@ views-holds w b c at from n =
     (λ h. refused (one-of (8 ∷ []) 8 tt))
 
 abbrev parts : List ℕ
-parts = 8 ∷ 10 ∷ 11 ∷ 12 ∷ []
+parts = 8 ∷ 10 ∷ 11 ∷ 12 ∷ 14 ∷ []
 
 -- a part compacted
-pub compacted-holds : (w : World) (b : Batch) (c at from n : ℕ) → Holds (Beside w) (Among (8 ∷ 10 ∷ 11 ∷ 12 ∷ [])) (partCompacted w b c at from n)
+pub compacted-holds : (w : World) (b : Batch) (c at from n : ℕ) → Holds (Beside w) (Among (8 ∷ 10 ∷ 11 ∷ 12 ∷ 14 ∷ [])) (partCompacted w b c at from n)
 unfolding partCompacted
 compacted-holds w b c at from n =
     holds-cond (isOpen w c)
@@ -164,13 +172,13 @@ way-holds w b c at from n Way.Copied = held (values-beside w b c (filling w) at 
 way-holds w b c at from n Way.Attached = holds-among parts tt (attached-holds w b c at from n)
 way-holds w b c at from n Way.Compacted = compacted-holds w b c at from n
 
-pub column-holds : (w₀ w : World) (b : Batch) (c from n : ℕ) → Holds (Beside w) (Among (8 ∷ 10 ∷ 11 ∷ 12 ∷ [])) (columnCopied w₀ w b c from n)
+pub column-holds : (w₀ w : World) (b : Batch) (c from n : ℕ) → Holds (Beside w) (Among (8 ∷ 10 ∷ 11 ∷ 12 ∷ 14 ∷ [])) (columnCopied w₀ w b c from n)
 unfolding columnCopied
 column-holds w₀ w b c from n =
     after (bits-beside w b c (filling w) (w .state .buffered .0) from n)
     (way-holds _ b c (w .state .buffered .0) from n (cond (isViews (w .state) c) (way w₀ b c) Way.Copied))
 
-pub part-holds : (w₀ w : World) (b : Batch) (from n : ℕ) → Holds (Beside w) (Among (8 ∷ 10 ∷ 11 ∷ 12 ∷ [])) (partCopied w₀ w b from n)
+pub part-holds : (w₀ w : World) (b : Batch) (from n : ℕ) → Holds (Beside w) (Among (8 ∷ 10 ∷ 11 ∷ 12 ∷ 14 ∷ [])) (partCopied w₀ w b from n)
 unfolding partCopied
 part-holds w₀ w b from n =
     holds-each (w .state .columns) (λ v c. columnCopied w₀ v b c from n) w (beside-refl w)

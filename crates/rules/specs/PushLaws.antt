@@ -144,7 +144,7 @@ whole-holds w b =
 
 -- ---- coalescing
 
-pub taken-holds : (w₀ w : World) (b : Batch) (from n : ℕ) → Holds (Ends w (w .state .buffered .0 + n)) (Among (8 ∷ 10 ∷ 11 ∷ 12 ∷ [])) (partTaken w₀ w b from n)
+pub taken-holds : (w₀ w : World) (b : Batch) (from n : ℕ) → Holds (Ends w (w .state .buffered .0 + n)) (Among (8 ∷ 10 ∷ 11 ∷ 12 ∷ 14 ∷ [])) (partTaken w₀ w b from n)
 unfolding partTaken
 taken-holds w₀ w b from n =
     holds-bind _ (part-holds w₀ w b from n) (λ v p. held
@@ -186,7 +186,7 @@ pub record Coalesces (w : World) (turns left : ℕ) (v : World) : Type 0 where
   pub below : left ≤ turns → w .state .buffered .0 < w .state .target .0 → v .state .buffered .0 < v .state .target .0
 
 abbrev stepNumbers : List ℕ
-stepNumbers = 8 ∷ 9 ∷ 10 ∷ 11 ∷ 12 ∷ []
+stepNumbers = 8 ∷ 9 ∷ 10 ∷ 11 ∷ 12 ∷ 14 ∷ []
 
 module _ (w₀ : World) (b : Batch) where
   -- step 4, for rows that fit the slot if there are turns enough
@@ -207,7 +207,7 @@ module _ (w₀ : World) (b : Batch) where
       holds-more (finished-holds v) (λ u f. record { kept = kept-trans (e .kept) (f .kept); buffered = f .buffered })
       (λ n a. among-more stepNumbers tt a))
 
-  pub coalesced-holds : (turns : ℕ) (w : World) (from : ℕ) → Holds (Coalesces w turns (b .rows - from)) (Among (8 ∷ 9 ∷ 10 ∷ 11 ∷ 12 ∷ [])) (coalesced turns w₀ w b from)
+  pub coalesced-holds : (turns : ℕ) (w : World) (from : ℕ) → Holds (Coalesces w turns (b .rows - from)) (Among (8 ∷ 9 ∷ 10 ∷ 11 ∷ 12 ∷ 14 ∷ [])) (coalesced turns w₀ w b from)
   unfolding coalesced
   coalesced-holds zero w from = last-holds w zero from (λ h m. omega arith)
   coalesced-holds (suc turns) w from =
@@ -231,7 +231,7 @@ module _ (w₀ : World) (b : Batch) where
 pub ends-stays : {w v : World} → Ends w 0 v → Stays w v
 ends-stays e = record { kept = e .kept; below = λ h. omega (arith, e .buffered, target-of (e .kept)) }
 
-pub stepped-holds : (w : World) (b : Batch) → Holds (Stays w) (Among (8 ∷ 9 ∷ 10 ∷ 11 ∷ 12 ∷ [])) (stepped w b)
+pub stepped-holds : (w : World) (b : Batch) → Holds (Stays w) (Among (8 ∷ 9 ∷ 10 ∷ 11 ∷ 12 ∷ 14 ∷ [])) (stepped w b)
 unfolding stepped
 stepped-holds w b =
     go (overLimit (w .state .limit) (b .rows)) refl (eqb (w .state .buffered .0) 0) refl (overLimit (w .state .limit) (w .state .buffered .0)) refl

@@ -1,13 +1,14 @@
 -- Set-up and its bounds; the tests 1 and 14 that every later call begins with.
 use Prim.Native.Nat.{ℕ, _+_, _*_}
-use mathlib.Core.Bool.{Bool, true, false, _&&_, cond}
+use mathlib.Core.Bool.{Bool, true, false, _&&_, not, cond}
+use mathlib.Core.List.{List}
 use lib.ListN.{length}
 use lib.Dec.{ltb, leb, eqb}
 use Rattle.search.specs.Every.{every}
 use Rattle.words.specs.Word.{word32}
 use Rattle.kinds.specs.declared.Width.{Width}
 use Rattle.kinds.specs.Kind.{widthAt}
-use Rattle.books.specs.Entry.{usedOf}
+use Rattle.books.specs.Entry.{isFreeAt}
 use Rattle.pool.specs.Read.{inRange}
 use Rattle.state.specs.declared.BatchCoalescer.{BatchCoalescer}
 use Rattle.state.specs.declared.OpenBlock.{OpenBlock}
@@ -39,17 +40,27 @@ fitsSetUp w =
     && (eqb (length (w .slots)) (slotsLength (w .state))
     && (eqb (length (w .pool)) (w .state .pool .0) && eqb (length (w .books)) (booksLength (w .state))))
 
--- 14, column by column: "a view column's kept block size below 4,096 or over 1,048,576"; an open block whose number is not in use, or
--- that its list has no place for (DECISIONS 3 and 11)
-abbrev pub blockInRange : ℕ → ℕ → ℕ → OpenBlock → Bool
-blockInRange used list room (OpenBlock.Number k) = ltb (k .0) used && ltb list room
-blockInRange used list room OpenBlock.Closed = true
+-- column d, of views, has block k open
+abbrev pub isBlock : ℕ → OpenBlock → Bool
+isBlock k (OpenBlock.Number j) = eqb (j .0) k
+isBlock k OpenBlock.Closed = false
+
+unfoldable pub hasOpen : BatchCoalescer → ℕ → ℕ → Bool
+hasOpen s k d = isViews s d && isBlock k (columnOf s d .block)
+
+-- 14, column by column: "a view column's kept block size below 4,096 or over 1,048,576"; an open block whose number is not below N or is
+-- free, that its list has no place for, or that a column before has open too (DECISIONS 3 and 11)
+abbrev pub blockInRange : BatchCoalescer → List ℕ → ℕ → ℕ → OpenBlock → Bool
+blockInRange s books list c (OpenBlock.Number k) =
+    ltb (k .0) (s .numbers)
+    && (not (isFreeAt books (k .0)) && (ltb list (s .lists) && every (λ d. not (hasOpen s (k .0) d)) c))
+blockInRange s books list c OpenBlock.Closed = true
 
 unfoldable pub columnInRange : World → ℕ → Bool
 columnInRange w c =
     cond (isViews (w .state) c)
     (between 4096 (columnOf (w .state) c .source .current .0) 1048576
-    && blockInRange (usedOf (w .books)) (listLength w (w .state .place) c) (w .state .lists) (columnOf (w .state) c .block))
+    && blockInRange (w .state) (w .books) (listLength w (w .state .place) c) c (columnOf (w .state) c .block))
     true
 
 -- 14, slot by slot, queued or not: "its rows over R", "a list over B", "a listed number not below N"; a column that is not of views has

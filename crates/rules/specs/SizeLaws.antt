@@ -14,7 +14,7 @@ use Rattle.listings.specs.Listing.{overList, noEntry, freed, taken, freeUnused,
 use Rattle.listings.specs.ListingLaws.{length-withUsed}
 use Rattle.sound.specs.Change.{withLength}
 use Rattle.room.specs.declared.Chosen.{Chosen}
-use Rattle.room.specs.Room.{chosen, takenFor, openedAs, opened}
+use Rattle.room.specs.Room.{chosen, blockRoom, takenFor, openedAs, opened}
 use Rattle.words.specs.RunLaws.{length-put}
 use borrow.Author.Tests.{ltb-false}
 use Rattle.pool.specs.RegisterLaws.{bytes-room}
@@ -72,7 +72,7 @@ for-room s capacity hold listings (Chosen.At r) = length-taken s (r .number .0) 
 
 pub length-opened : (s : List ℕ) (n pool capacity : ℕ) → length (opened s n pool capacity .books) ≡ length s
 unfolding opened openedAs
-length-opened s n pool capacity = for-room s capacity 0 1 (chosen s n pool capacity)
+length-opened s n pool capacity = for-room s capacity 0 1 (blockRoom s n pool capacity)
 
 at-room : (s p bytes : List ℕ) (capacity : ℕ) (c : Chosen) → length (settledAt s p bytes capacity c .books) ≡ length s
 at-room s p bytes capacity (Chosen.Refused number) = refl

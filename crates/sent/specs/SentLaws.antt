@@ -12,8 +12,7 @@ use Rattle.rules.specs.Batch.{Batch}
 use Rattle.rules.specs.Calls.{Wanted, readRow, rowRefusal, bufferNumberCall, bufferCall, limitOf, bufferedCount, hasCompleted, isEmpty}
 use Rattle.codes.specs.Code.{decoded}
 use Rattle.crossing.specs.Cross.{limitPair, rowBytes}
-use Rattle.capi.specs.Api.{Memory, memory, said, Told, told, number, both, finishing, dropping, registering, lettingGo, worldIn, called, created, bufferNumber, partIn, bufferRead, rowIn, rowRead, limitSet, limitRead, rowsBuffered, completedFlag, emptyFlag}
-use Rattle.capi.specs.HandsOn.{HandsOn}
+use Rattle.capi.specs.Api.{Memory, memory, said, Told, told, number, both, pushing, finishing, dropping, registering, lettingGo, worldIn, called, created, bufferNumber, partIn, bufferRead, rowIn, rowRead, limitSet, limitRead, rowsBuffered, completedFlag, emptyFlag}
 use Rattle.history.specs.Call.{finish, drop, register, letGo, read}
 use Rattle.promise.specs.OnBytes.{HoldsWorld, Sent, sent-push, sent-finish, sent-drop, sent-register, sent-let-go, sent-limit, sent-read, SentPush, SentLimit, SentNew}
 use Rattle.sent.specs.Reads.{ReadsRow, ReadsBuffer, ReadsRefusal, ReadsState, ReadsLimit, ReadsRows, ReadsCompleted, ReadsEmpty}
@@ -23,7 +22,7 @@ use Rattle.sent.specs.Reads.{ReadsRow, ReadsBuffer, ReadsRefusal, ReadsS
 pub new-sent : {a : Wanted} {kinds : List ℕ} {m : Memory} {r : ℕ} {m′ : Memory} → said r m′ ≡ created a kinds m → Bytes (m′ .state) → Bytes (m .slots) → SentNew a kinds m r m′
 new-sent p is at = record { is = p; bytes = is; slots = at }
 
-pub push-sent : {m : Memory} {b : Batch} {r : ℕ} {m′ : Memory} → HandsOn m b r m′ → Bytes (b .body) → Bytes (m′ .state) → SentPush m b r m′
+pub push-sent : {m : Memory} {b : Batch} {r : ℕ} {m′ : Memory} → said r m′ ≡ called number (pushing b) m → Bytes (b .body) → Bytes (m′ .state) → SentPush m b r m′
 push-sent p d is = record { body = record { body = d }; sent = sent-push (record { body = d }) p is }
 
 pub limit-sent : (flag rows : ℕ) {state : List ℕ} {r : ℕ} {state′ : List ℕ} → told r state′ ≡ limitSet flag rows state → Bytes state′ → SentLimit flag rows state r state′

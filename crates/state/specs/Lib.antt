@@ -6,3 +6,4 @@ pub mod Where
 pub mod WhereLaws
 pub mod SlotLaws
 pub mod Rows
+pub mod RowLaws

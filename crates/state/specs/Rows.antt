@@ -41,12 +41,12 @@ abbrev pub openBytes : World → OpenBlock → List ℕ
 openBytes w (OpenBlock.Number k) = filledBytes (w .books) (w .pool) (k .0)
 openBytes w OpenBlock.Closed = []
 
--- the bytes of the buffer at index i of column c of a slot: of the list; or, behind it in the slot being filled, of the open block
--- (DECISIONS 7: "buffered long views carry index = list length meanwhile")
+-- the bytes of the buffer at index i of column c of a slot: below the list's length of the number listed there; at the length, in the slot
+-- being filled, of the open block (DECISIONS 7: "buffered long views carry index = list length meanwhile"); past it there are none
 unfoldable pub bufferAt : World → ℕ → ℕ → ℕ → List ℕ
 bufferAt w slot c i =
     cond (ltb i (listLength w slot c)) (filledBytes (w .books) (w .pool) (listedAt w slot c i))
-    (cond (eqb slot (w .state .place)) (openBytes w (columnOf (w .state) c .block)) [])
+    (cond (eqb i (listLength w slot c)) (cond (eqb slot (w .state .place)) (openBytes w (columnOf (w .state) c .block)) []) [])
 
 -- a cell: a bit says whether it is null; its bytes stand in their place, or its view there shows them. 01: "Validity is one
 -- bit a row, least significant bit first, 1 valid"

@@ -1,5 +1,5 @@
 // Prints a call of a capture and what it answered, a line a call; and the rows of a batch in hexadecimal. For the programs `edges` and
-// `replay`. It is handed answers: of the memories it sees the books alone, which it shows.
+// `replay`. It is handed answers: of the memories it sees the books, which it shows, and the bytes that a capture asks to see.
 use answers::Answer;
 use answers::Cell;
 use answers::Counts;
@@ -19,7 +19,7 @@ pub fn line(x: Call, second: &[u8], answer: Answer, counts: Counts) {
             tell_rest(what, answer, counts);
             write(b"\n");
         }
-        8 | 9 | 11..=13 => {}
+        8 | 9 | 11..=14 => {}
         10 => tell_flags(counts),
         _ => note(second),
     }
@@ -208,6 +208,25 @@ fn tell_bytes(s: &[u8]) {
 // A byte in hexadecimal.
 fn tell_byte(b: u8) {
     io::print_hex(STDOUT_FILENO, b as u64, 2);
+}
+
+// Bytes of a memory as they stand, a line: 0 the state, 1 the slots, 2 the books, else the pool.
+pub fn show_bytes(memory: u32, at: u32, bytes: &[u8]) {
+    name_memory(memory);
+    say(b" at ", at);
+    write(b": ");
+    tell_value(1, bytes);
+    write(b"\n");
+}
+
+// A memory's name.
+fn name_memory(memory: u32) {
+    match memory {
+        0 => write(b"state"),
+        1 => write(b"slots"),
+        2 => write(b"books"),
+        _ => write(b"pool"),
+    }
 }
 
 // The entries of the books that are in use, as far as they are there.

@@ -24,10 +24,11 @@ use Rattle.push_safety.specs.Firm.{FirmGoes, run-firm, firm-run, firm-goes, sam
 use Rattle.push_safety.specs.StepGoes.{column-cases, column-new}
 use Rattle.push_safety.specs.FinishGoes.{Shut, shut-spare}
 use Rattle.trial_truth.specs.Tells.{closedAt}
+use Rattle.room.specs.BackLaws.{tried-none}
 use Rattle.trial_column.specs.ShutLaws.{not-number}
 use Rattle.trial_column.specs.Trying.{Trying, Tries}
 use Rattle.trial.specs.Tried.{TriesFinish, ClosesFirst}
-use Rattle.trial_column.specs.TryingLaws.{marks-refl, trying-roomy, tries-none}
+use Rattle.trial_column.specs.TryingLaws.{trying-roomy, tries-none}
 
 -- ---- close_one and close_all
 
@@ -165,7 +166,7 @@ module _ {s t : BatchCoalescer} {books : List ℕ} (x : Trying s books) (a : Clo
   next-tries =
       record {
         set-up = same;
-        marks = marks-refl (trying-roomy x) (x .run .used);
+        marks = tried-none (trying-roomy x) (x .run .used);
         trying = record { slots = x .slots; pool = x .pool; run = firm-run (firm .firm) (shut-spare shut) };
       }
 

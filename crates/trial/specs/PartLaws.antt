@@ -5,6 +5,7 @@ use mathlib.Core.Bool.{true}
 use mathlib.Core.List.{List, []}
 use native.Mathlib.Omega.{arith}
 use lib.ListN.{length, getD}
+use Rattle.room.specs.Back.{Tried}
 use Rattle.state.specs.declared.BatchCoalescer.{BatchCoalescer}
 use Rattle.state.specs.Layout.{isViews, booksLength}
 use Rattle.layout.specs.Few.{Few}
@@ -20,7 +21,7 @@ use Rattle.records.specs.RecordLaws.{record-same}
 use Rattle.push_safety.specs.StepGoes.{buffering-goes}
 use Rattle.routes.specs.declared.Sources.{Sources}
 use Rattle.routes.specs.Sourced.{noSource}
-use Rattle.trial_column.specs.Trying.{Trying, Marks, Tries, TriesColumn, Compactable}
+use Rattle.trial_column.specs.Trying.{Trying, Tries, TriesColumn, Compactable}
 use Rattle.trial.specs.Tried.{TriesPart, TriesThen, TriesFinish, Triable}
 use Rattle.trial_column.specs.TryingLaws.{trying-bounds, trying-few, trying-place, trying-length, tries-none, tries-trans}
 
@@ -118,7 +119,7 @@ module _ {s t : BatchCoalescer} {a b d : List ℕ} {n : ℕ} {r : Step} (x : Tri
   pub turn-done : Tries s a (r .state) d
   turn-done = tries-trans x (y .tries)
 
-  pub turn-marks : Marks a d (s .numbers)
+  pub turn-marks : Tried a d (s .numbers)
   turn-marks = turn-done .marks
 
 -- behind a part that fills the slot nothing is buffered, which is below the target

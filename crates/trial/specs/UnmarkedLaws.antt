@@ -8,7 +8,7 @@ use Rattle.pool.specs.ReadLaws.{range-says}
 use Rattle.state.specs.World.{World}
 use Rattle.rules.specs.Ranges.{stateInRange, tested}
 use Rattle.rules.specs.TestLaws.{TestedCase, notSetUp, outOfRange, passed, tested-case}
-use Rattle.trial.specs.Trial.{Unmarked}
+use Rattle.room.specs.Back.{Unmarked}
 
 books-range : (w : World) → stateInRange w ≡ true → inRange (w .books) (w .state .numbers) (w .state .pool .0) ≡ true
 unfolding stateInRange

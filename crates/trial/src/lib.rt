@@ -10,8 +10,10 @@ ghost use Rattle.rules.specs.Batch.{batch};
 ghost use Rattle.columns.specs.Pushing.{Pushing};
 ghost use Rattle.routes.specs.Sourced.{Sourced};
 ghost use Rattle.trial_truth.specs.Tells.{closedAt, closedTo, TellsPart, TellsFinished, TellsThen, TellsRows, TellsFirst, Tells};
-ghost use Rattle.trial.specs.Trial.{Unmarked, Restored, Answers};
-ghost use Rattle.trial_column.specs.Trying.{Trying, Marks};
+ghost use Rattle.room.specs.Back.{Unmarked, Tried};
+ghost use Rattle.trial_truth.specs.Like.{OwnBlocks};
+ghost use Rattle.trial.specs.Trial.{Answers};
+ghost use Rattle.trial_column.specs.Trying.{Trying};
 ghost use Rattle.trial.specs.Tried.{TriesPart, TriesThen, TriesFinish, ClosesFirst, Triable};
 use counts::RowCount;
 use routes::Route;
@@ -163,7 +165,7 @@ fn try_rows(
 ) -> u32
     requires { ⌜ (Trying s (now books)) × (Triable s sources (batch rows (now records) (now body)))
         × (s .buffered .0 < s .target .0) ⌝ }
-    ensures { λ r. ⌜ (Marks (now (books .entry)) (now (books .exit)) (s .numbers))
+    ensures { λ r. ⌜ (Tried (now (books .entry)) (now (books .exit)) (s .numbers))
         × (TellsRows s (now (books .entry)) sources (batch rows (now (records .entry)) (now (body .entry))) r) ⌝ }
 {
     let mut t = s;
@@ -206,7 +208,7 @@ fn try_push(
 ) -> u32
     requires { ⌜ (Trying s (now books)) × (Triable s sources (batch rows (now records) (now body)))
         × (s .buffered .0 < s .target .0) ⌝ }
-    ensures { λ r. ⌜ (Marks (now (books .entry)) (now (books .exit)) (s .numbers))
+    ensures { λ r. ⌜ (Tried (now (books .entry)) (now (books .exit)) (s .numbers))
         × (Tells s (now (books .entry)) sources (batch rows (now (records .entry)) (now (body .entry))) r) ⌝ }
 {
     let route = routes::route_of(s, rows);
@@ -227,8 +229,8 @@ pub fn room_refusal(
     rows: u32,
 ) -> u32
     requires { ⌜ (Pushing s (now books) (batch rows (now records) (now body))) × (Sourced sources (world s [] [] (now books)) (batch rows (now records) (now body)))
-        × (Unmarked (now books)) ⌝ }
-    ensures { λ r. ⌜ (Restored (now (books .entry)) (now (books .exit)) (s .numbers))
+        × (Unmarked (now books)) × (OwnBlocks s (now books)) ⌝ }
+    ensures { λ r. ⌜ (now (books .exit) ≡ now (books .entry))
         × (Answers s (now (books .entry)) (batch rows (now (records .entry)) (now (body .entry))) r) ⌝ }
 {
     let used = words::get32(books, 0);

@@ -11,15 +11,17 @@ use Rattle.blocks.specs.declared.BufferSource.{BufferSource}
 use Rattle.blocks.specs.Block.{asked}
 use Rattle.books.specs.declared.Entry.{Entry}
 use Rattle.books.specs.Entry.{usedOf, entryOf}
-use Rattle.listings.specs.Listing.{taken}
+use Rattle.books.specs.EntryLaws.{EntryWords}
+use Rattle.listings.specs.Listing.{noEntry, taken}
 use Rattle.pool.specs.Register.{isHeld}
 use Rattle.sound.specs.Change.{Changed}
 use Rattle.sound.specs.OpLaws.{changed-roomy, taken-changed, used-taken}
 use Rattle.room.specs.declared.Room.{Room}
 use Rattle.room.specs.declared.Chosen.{Chosen}
-use Rattle.room.specs.Room.{chosen, entryAt, takenFor, openedAs, tried, Opens}
-use Rattle.room.specs.RoomLaws.{Found-room, room-says}
-use Rattle.room.specs.BackLaws.{tried-answer}
+use Rattle.room.specs.Room.{blockRoom, entryAt, takenFor, openedAs, tried, Opens}
+use Rattle.room.specs.RoomLaws.{Found-room, ZeroRoom, room-says, block-says}
+use Rattle.room.specs.Back.{Tried}
+use Rattle.room.specs.BackLaws.{tried-answer, taken-tried}
 use Rattle.state.specs.declared.BatchCoalescer.{BatchCoalescer}
 use Rattle.state.specs.declared.Column.{Column}
 use Rattle.state.specs.declared.OpenBlock.{OpenBlock}
@@ -35,13 +37,13 @@ use Rattle.push_safety.specs.StepGoes.{with-column-goes}
 use Rattle.push_safety.specs.OpenGoes.{asked-some}
 use Rattle.push_safety.specs.CallerLaws.{run-bounds}
 use Rattle.trial_truth.specs.Like.{sizeFor, Took, Buffers}
-use Rattle.trial_column.specs.Trying.{Trying, StillOrMarked, still, marked, Marks, TriesColumn, Bufferable}
+use Rattle.trial_column.specs.Trying.{Trying, TriesColumn, Bufferable}
 use Rattle.trial_column.specs.TryingLaws.{column-none}
 
 -- ---- the books
 
 -- a marked entry at the lowest free number, beside the entry that the push itself would put there
-module _ {s : List ℕ} {n p : ℕ} (capacity : ℕ) (r : BooksRun s n p) (room : Room) (f : Found-room s n p capacity room) (small : p < 2 ^ 32) where
+module _ {s : List ℕ} {n p : ℕ} (capacity : ℕ) (r : BooksRun s n p) (room : Room) (f : Found-room s n p capacity room) (zero : entryOf s (room .number .0) ≡ noEntry) (small : p < 2 ^ 32) where
   abbrev i : ℕ
   i = room .number .0
 
@@ -57,10 +59,12 @@ module _ {s : List ℕ} {n p : ℕ} (capacity : ℕ) (r : BooksRun s n p) (room 
   fits : room .start + capacity ≤ p
   fits = omega (arith, f .gap .fits)
 
+  words : EntryWords mark
+  words =
+      record { start-fits = omega (arith, fits); capacity-fits = omega (arith, fits); length-fits = omega arith; hold-fits = omega arith; listings-fits = omega arith }
+
   changed : Changed s t n i mark
-  changed =
-      taken-changed i (r .roomy) (f .number .below) mark
-      (record { start-fits = omega (arith, fits); capacity-fits = omega (arith, fits); length-fits = omega arith; hold-fits = omega arith; listings-fits = omega arith })
+  changed = taken-changed i (r .roomy) (f .number .below) mark words
 
   beside : Changed s real n i (entryAt (room .start) capacity 0 0 1)
   beside = taken-at i (room .start) capacity r (f .number .below) fits small
@@ -112,24 +116,12 @@ module _ {s : List ℕ} {n p : ℕ} (capacity : ℕ) (r : BooksRun s n p) (room 
         start = λ k h. start-at k h (ℕ-discrete k i);
       }
 
-  still-at : (k : ℕ) → Dec (k ≡ i) → StillOrMarked s t k
-  still-at k (yes d) =
-      rw d (marked (f .number .accepted) (ap (λ (e : Entry). e .hold) (changed .same)) (taken-in i mark r (f .number .below)))
-  still-at k (no d) = still (changed .other k d)
-
-  mark-marks : Marks s t n
-  mark-marks =
-      record {
-        framed = changed .framed;
-        bytes = changed .bytes;
-        more = mark-go .used;
-        used = mark-go .run .used;
-        each = λ k h. still-at k (ℕ-discrete k i);
-      }
+  mark-tries : Tried s t n
+  mark-tries = taken-tried i mark (r .roomy) (r .used) (f .number) zero words refl
 
 -- ---- the state
 
-module _ {s : BatchCoalescer} {books : List ℕ} (x : Trying s books) (c : ℕ) (h : c < s .columns) (y : isViews s c ≡ true) (l : listLength (world s [] [] books) (s .place) c < s .lists) (source : BufferSource) (some : 1 ≤ source .current .0) (size : ℕ) (room : Room) (f : Found-room books (s .numbers) (s .pool .0) size room) where
+module _ {s : BatchCoalescer} {books : List ℕ} (x : Trying s books) (c : ℕ) (h : c < s .columns) (y : isViews s c ≡ true) (l : listLength (world s [] [] books) (s .place) c < s .lists) (source : BufferSource) (some : 1 ≤ source .current .0) (size : ℕ) (room : Room) (f : Found-room books (s .numbers) (s .pool .0) size room) (zero : entryOf books (room .number .0) ≡ noEntry) where
   abbrev w : World
   w = world s (x .slots) (x .pool) books
 
@@ -139,12 +131,12 @@ module _ {s : BatchCoalescer} {books : List ℕ} (x : Trying s books) (c : ℕ) 
   small : s .pool .0 < 2 ^ 32
   small = omega (arith, run-bounds (x .run) .pool)
 
-  marks : Marks books booked (s .numbers)
-  marks = mark-marks size (run-firm (x .run) .books) room f small
+  marks : Tried books booked (s .numbers)
+  marks = mark-tries size (run-firm (x .run) .books) room f zero small
 
   go : Goes w (inBooks w booked)
   go =
-      within-goes w (inBooks w booked) refl refl refl (mark-go size (run-firm (x .run) .books) room f small) (marks .framed) (x .run)
+      within-goes w (inBooks w booked) refl refl refl (mark-go size (run-firm (x .run) .books) room f zero small) (marks .framed) (x .run)
 
   list : listLength (inBooks w booked) (s .place) c < s .lists
   list =
@@ -177,16 +169,16 @@ module _ {s : BatchCoalescer} {books : List ℕ} (x : Trying s books) (c : ℕ) 
 
 -- ---- the ways out of try_buffer
 
-answer-at : (s : List ℕ) (n pool capacity : ℕ) {r : Chosen} {t : List ℕ} {room : Room} → Opens (tried s n pool capacity) t r → r ≡ Chosen.At room → (chosen s n pool capacity ≡ Chosen.At room) × (t ≡ taken s (room .number .0) (entryAt (room .start) capacity 0 2 0))
+answer-at : (s : List ℕ) (n pool capacity : ℕ) {r : Chosen} {t : List ℕ} {room : Room} → Opens (tried s n pool capacity) t r → r ≡ Chosen.At room → (blockRoom s n pool capacity ≡ Chosen.At room) × (t ≡ taken s (room .number .0) (entryAt (room .start) capacity 0 2 0))
 unfolding tried openedAs
 answer-at s n pool capacity {r} {t} {room} o e =
-    let q : chosen s n pool capacity ≡ Chosen.At room = sym (tried-answer s n pool capacity) ∙ sym (o .answer-is) ∙ e in
+    let q : blockRoom s n pool capacity ≡ Chosen.At room = sym (tried-answer s n pool capacity) ∙ sym (o .answer-is) ∙ e in
     (q, o .books-are ∙ ap (λ (a : Chosen). takenFor s capacity 2 0 a .books) q)
 
 answer-not : (s : List ℕ) (n pool capacity : ℕ) {r : Chosen} {t : List ℕ} {number : ℕ} → Opens (tried s n pool capacity) t r → r ≡ Chosen.Refused number → t ≡ s
 unfolding tried openedAs
 answer-not s n pool capacity {r} {t} {number} o e =
-    let q : chosen s n pool capacity ≡ Chosen.Refused number = sym (tried-answer s n pool capacity) ∙ sym (o .answer-is) ∙ e in
+    let q : blockRoom s n pool capacity ≡ Chosen.Refused number = sym (tried-answer s n pool capacity) ∙ sym (o .answer-is) ∙ e in
     o .books-are ∙ ap (λ (a : Chosen). takenFor s capacity 2 0 a .books) q
 
 pub buffer-refused : {s : BatchCoalescer} {books : List ℕ} (size : ℕ) {r : Chosen} {t : List ℕ} {number : ℕ} → Trying s books → Opens (tried books (s .numbers) (s .pool .0) size) t r → r ≡ Chosen.Refused number → TriesColumn s books s t
@@ -209,11 +201,12 @@ module _ (s : BatchCoalescer) (books : List ℕ) (c n : ℕ) (min : ByteSum) {k 
 
   -- state and books stay in order
   pub buffer-opened : {r : Chosen} {t : List ℕ} {room : Room} {v : BatchCoalescer} → Bufferable s books c n → Opens (tried books (s .numbers) (s .pool .0) (a .size .0)) t r → r ≡ Chosen.At room → v ≡ withColumn s c (a .source) (OpenBlock.Number (room .number)) → TriesColumn s books v t
-  buffer-opened {r} {t} {room} {v} x o g z =
+  buffer-opened {r} {t} {room} {v} x o g e′ =
       let b = answer-at books (s .numbers) (s .pool .0) (a .size .0) o g in
+      let z : ZeroRoom books (s .numbers) (s .pool .0) (a .size .0) room = block-says books (s .numbers) (s .pool .0) (a .size .0) room (b .0) in
       let some : 1 ≤ a .source .current .0 = rw (q, e) (asked-some (columnOf s c .source) min (x .trying .run .kept c (x .column) (x .views))) in
-      rw (b .1, z)
-      (opens (x .trying) c (x .column) (x .views) (omega (arith, x .most)) (a .source) some (a .size .0) room (room-says books (s .numbers) (s .pool .0) (a .size .0) room (b .0)))
+      rw (b .1, e′)
+      (opens (x .trying) c (x .column) (x .views) (omega (arith, x .most)) (a .source) some (a .size .0) room (room-says books (s .numbers) (s .pool .0) (a .size .0) room (z .chooses)) (z .zero))
 
   -- and as the push sees them
   pub buffers-refused : {r : Chosen} {t : List ℕ} {number : ℕ} → Opens (tried books (s .numbers) (s .pool .0) (a .size .0)) t r → r ≡ Chosen.Refused number → Buffers s books c n (min .0) (record { state = s; number = number }) t
@@ -224,7 +217,7 @@ module _ (s : BatchCoalescer) (books : List ℕ) (c n : ℕ) (min : ByteSum) {k 
         opened = λ h room z. let p : Chosen.Refused number ≡ Chosen.At room = sym says ∙ z in let i : _≡_ {A = ℕ} 0 1 = cc in absurd (omega arith);
       }
     where
-      says : chosen books (s .numbers) (s .pool .0) (sizeFor s c (min .0)) ≡ Chosen.Refused number
+      says : blockRoom books (s .numbers) (s .pool .0) (sizeFor s c (min .0)) ≡ Chosen.Refused number
       says = rw (← size-at) (sym (tried-answer books (s .numbers) (s .pool .0) (a .size .0)) ∙ sym (o .answer-is) ∙ g)
 
   pub buffers-opened : {r : Chosen} {t : List ℕ} {room : Room} {v : BatchCoalescer} → Opens (tried books (s .numbers) (s .pool .0) (a .size .0)) t r → r ≡ Chosen.At room → v ≡ withColumn s c (a .source) (OpenBlock.Number (room .number)) → Buffers s books c n (min .0) (record { state = v; number = 0 }) t
@@ -235,10 +228,10 @@ module _ (s : BatchCoalescer) (books : List ℕ) (c n : ℕ) (min : ByteSum) {k 
         opened = λ h room′ z. let p : Chosen.At room ≡ Chosen.At room′ = sym says ∙ z in let i : room ≡ room′ = cc in rw (← i) took;
       }
     where
-      b : (chosen books (s .numbers) (s .pool .0) (a .size .0) ≡ Chosen.At room) × (t ≡ taken books (room .number .0) (entryAt (room .start) (a .size .0) 0 2 0))
+      b : (blockRoom books (s .numbers) (s .pool .0) (a .size .0) ≡ Chosen.At room) × (t ≡ taken books (room .number .0) (entryAt (room .start) (a .size .0) 0 2 0))
       b = answer-at books (s .numbers) (s .pool .0) (a .size .0) o g
 
-      says : chosen books (s .numbers) (s .pool .0) (sizeFor s c (min .0)) ≡ Chosen.At room
+      says : blockRoom books (s .numbers) (s .pool .0) (sizeFor s c (min .0)) ≡ Chosen.At room
       says = rw (← size-at) (b .0)
 
       took : Took s books c (min .0) room (record { state = v; number = 0 }) t

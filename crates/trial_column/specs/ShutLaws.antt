@@ -7,12 +7,13 @@ use Rattle.counts.specs.declared.BufferNumber.{BufferNumber}
 use Rattle.state.specs.declared.BatchCoalescer.{BatchCoalescer}
 use Rattle.state.specs.declared.Column.{Column}
 use Rattle.state.specs.declared.OpenBlock.{OpenBlock}
+use Rattle.room.specs.BackLaws.{tried-none}
 use Rattle.state.specs.World.{columnOf}
 use Rattle.rules.specs.Stays.{same-column}
 use Rattle.rules.specs.Steps.{withColumn}
 use Rattle.push_safety.specs.StepGoes.{with-column-goes}
 use Rattle.trial_column.specs.Trying.{Trying, TriesColumn}
-use Rattle.trial_column.specs.TryingLaws.{marks-refl, trying-roomy}
+use Rattle.trial_column.specs.TryingLaws.{trying-roomy}
 
 -- no block is none
 pub not-number : (k : BufferNumber) → OpenBlock.Closed ≡ OpenBlock.Number k → ⊥
@@ -28,7 +29,7 @@ column-shut {s} {books} {c} {k} {t} x h e q = rw (q, e) shut
           tries =
               record {
                 set-up = same-column s c (columnOf s c .source) OpenBlock.Closed;
-                marks = marks-refl (trying-roomy x) (x .run .used);
+                marks = tried-none (trying-roomy x) (x .run .used);
                 trying =
                     record {
                       slots = x .slots;

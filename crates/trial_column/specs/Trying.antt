@@ -4,9 +4,7 @@ use mathlib.Core.Path.{_≡_}
 use mathlib.Core.Bool.{true}
 use mathlib.Core.List.{List, []}
 use lib.ListN.{length}
-use Rattle.words.specs.WordLaws.{Bytes}
-use Rattle.words.specs.Frame.{Framed}
-use Rattle.books.specs.Entry.{usedOf, entryOf, isFreeAt}
+use Rattle.room.specs.Back.{Tried}
 use Rattle.state.specs.declared.BatchCoalescer.{BatchCoalescer}
 use Rattle.state.specs.World.{world}
 use Rattle.state.specs.Layout.{isViews, listLength}
@@ -21,23 +19,10 @@ pub record Trying (s : BatchCoalescer) (books : List ℕ) : Type 0 where
   pub pool : List ℕ
   pub run : Run (world s slots pool books)
 
--- the entry of a number: as it was, or free before and marked now
-pub data StillOrMarked (s t : List ℕ) (k : ℕ) : Type 0 where
-  still : entryOf t k ≡ entryOf s k → StillOrMarked s t k
-  marked : isFreeAt s k ≡ true → entryOf t k .hold ≡ 2 → k < usedOf t → StillOrMarked s t k
-
--- t are the books s with entries marked
-pub record Marks (s t : List ℕ) (n : ℕ) : Type 0 where
-  pub framed : Framed 0 (4 + 20 * n) s t
-  pub bytes : Bytes t
-  pub more : usedOf s ≤ usedOf t
-  pub used : usedOf t ≤ n
-  pub each : (k : ℕ) → k < n → StillOrMarked s t k
-
 -- what every step of a trial leaves, refused or not
 pub record Tries (s : BatchCoalescer) (books : List ℕ) (t : BatchCoalescer) (books′ : List ℕ) : Type 0 where
   pub set-up : SameSetUp s t
-  pub marks : Marks books books′ (s .numbers)
+  pub marks : Tried books books′ (s .numbers)
   pub trying : Trying t books′
 
 -- a column: the rows buffered are as they were

@@ -1,17 +1,14 @@
 -- What a state and books in order give the code, and how steps of a trial follow one another.
 use Prim.Native.Nat.{ℕ, _+_, _*_, _≤_, _<_}
 use mathlib.Core.Path.{_≡_, refl, sym, _∙_, ap}
-use mathlib.Core.Bool.{true, cond}
+use mathlib.Core.Bool.{true}
 use mathlib.Core.List.{List, []}
 use native.Mathlib.Omega.{arith}
-use native.Mathlib.Decide.{decLt}
-use lib.Dec.{ltb}
-use borrow.Author.Tests.{lt-ltb, le-ltb}
 use lib.ListN.{length, replicate, length-replicate}
-use Rattle.words.specs.FrameLaws.{framed-refl, framed-trans}
 use Rattle.counts.specs.declared.BufferNumber.{BufferNumber}
-use Rattle.books.specs.Entry.{usedOf, entryOf, isFree, isFreeAt}
+use Rattle.books.specs.Entry.{usedOf}
 use Rattle.sound.specs.Change.{Roomy}
+use Rattle.room.specs.BackLaws.{tried-none, tried-trans}
 use Rattle.state.specs.declared.BatchCoalescer.{BatchCoalescer}
 use Rattle.state.specs.declared.Column.{Column}
 use Rattle.state.specs.declared.OpenBlock.{OpenBlock}
@@ -27,7 +24,7 @@ use Rattle.rules.specs.Views.{isOpen}
 use Rattle.push_safety.specs.TestedLaws.{Bounds}
 use Rattle.push_safety.specs.Firm.{run-firm}
 use Rattle.push_safety.specs.CallerLaws.{run-bounds, entries-room, entry-room}
-use Rattle.trial_column.specs.Trying.{Trying, StillOrMarked, still, marked, Marks, Tries, TriesColumn}
+use Rattle.trial_column.specs.Trying.{Trying, Tries, TriesColumn}
 
 -- a state in order whatever slots and pool are beside it is in order beside some
 pub running-trying : {s : BatchCoalescer} {books : List ℕ} → Running s books → Trying s books
@@ -81,48 +78,11 @@ closed-most s books c e =
     rw e
     (by-cond (λ (m : ℕ). listLength (world s [] [] books) (s .place) c ≤ m) (isOpen (world s [] [] books) c) (λ o. omega arith) (λ o. omega arith))
 
--- ---- books: nothing marked, and one after another
-
-pub marks-refl : {books : List ℕ} {n : ℕ} → Roomy books n → usedOf books ≤ n → Marks books books n
-marks-refl {books} {n} r u =
-    record {
-      framed = framed-refl 0 (4 + 20 * n) books;
-      bytes = r .bytes;
-      more = omega arith;
-      used = u;
-      each = λ k h. still refl;
-    }
-
--- a number that is free later was free
-free-back : (s t : List ℕ) (k : ℕ) → usedOf s ≤ usedOf t → entryOf t k ≡ entryOf s k → isFreeAt t k ≡ true → isFreeAt s k ≡ true
-unfolding isFreeAt
-free-back s t k m e f = go (decLt k (usedOf s))
-  where
-    go : Dec (k < usedOf s) → cond (ltb k (usedOf s)) (isFree (entryOf s k)) true ≡ true
-    go (yes d) = rw (lt-ltb k (usedOf s) d, ← e) (rw (lt-ltb k (usedOf t) (omega arith)) at f)
-    go (no d) = rw (le-ltb k (usedOf s) (omega arith))
-
-pub marks-trans : {s t u : List ℕ} {n : ℕ} → Marks s t n → Marks t u n → Marks s u n
-marks-trans {s} {t} {u} a b =
-    record {
-      framed = framed-trans (a .framed) (b .framed);
-      bytes = b .bytes;
-      more = omega (arith, a .more, b .more);
-      used = b .used;
-      each = λ k h. go k (a .each k h) (b .each k h);
-    }
-  where
-    go : (k : ℕ) → StillOrMarked s t k → StillOrMarked t u k → StillOrMarked s u k
-    go k (still p) (still q) = still (q ∙ p)
-    go k (still p) (marked f m h) = marked (free-back s t k (a .more) p f) m h
-    go k (marked f m h) (still q) = marked f (rw q m) (omega (arith, b .more))
-    go k (marked f m h) (marked g o l) = marked f o l
-
 -- ---- steps: none, and one after another
 
 module _ {s : BatchCoalescer} {books : List ℕ} (x : Trying s books) where
   pub tries-none : Tries s books s books
-  tries-none = record { set-up = same-refl s; marks = marks-refl (trying-roomy x) (x .run .used); trying = x }
+  tries-none = record { set-up = same-refl s; marks = tried-none (trying-roomy x) (x .run .used); trying = x }
 
   pub column-none : TriesColumn s books s books
   column-none = record { tries = tries-none; buffered = refl }
@@ -131,7 +91,7 @@ pub tries-trans : {s t u : BatchCoalescer} {a b d : List ℕ} → Tries s a t b 
 tries-trans {a = a} {b = b} {d = d} x y =
     record {
       set-up = same-trans (x .set-up) (y .set-up);
-      marks = marks-trans (x .marks) (rw (x .set-up .numbers) at (y .marks));
+      marks = tried-trans (x .marks) (rw (x .set-up .numbers) at (y .marks));
       trying = y .trying;
     }
 

@@ -7,7 +7,7 @@ use native.Mathlib.Omega.{arith}
 use borrow.Author.Tests.{le-leb, lt-leb}
 use Rattle.counts.specs.declared.BufferNumber.{BufferNumber}
 use Rattle.blocks.specs.declared.BufferSource.{BufferSource}
-use Rattle.books.specs.Entry.{entryOf}
+use Rattle.books.specs.Entry.{entryOf, isFree}
 use Rattle.sound.specs.Change.{Roomy}
 use Rattle.state.specs.declared.BatchCoalescer.{BatchCoalescer}
 use Rattle.state.specs.declared.Column.{Column}
@@ -96,13 +96,16 @@ module _ {s : BatchCoalescer} {books : List ℕ} {b : Batch} {c : ℕ} {v : Worl
         let x = a .live c (k .0) (omega arith) opens in
         rw (number-at) (omega (arith, g, filled-at, a .alike .capacity (k .0) (x .0) (x .1), a .filled c (k .0) (omega arith) opens))
 
+    live-at : isFree (entryOf (v .books) (openNumber v c)) ≡ false
+    live-at = let x = a .live c (k .0) (omega arith) opens in rw number-at (a .alike .free (k .0) (x .0) ∙ x .1)
+
     uses : ideal v b c ≤ rest → partCompacted v b c at from m ≡ viewsCompacted v b c at from m
     unfolding partCompacted
     uses l = rw (o, ← rest-at, le-leb (ideal v b c) rest l)
 
     pub fits-follows : ideal v b c ≤ rest → Follows (partCompacted v b c at from m) b (c + 1) (record { state = s; number = 0 }) books
     fits-follows l =
-        let x : LeavesLists c v (viewsCompacted v b c at from m) = views-make v b c at from m (a .run) h′ y′ o (omega (arith, part-ideal v b c from m there, rest-at)) in
+        let x : LeavesLists c v (viewsCompacted v b c at from m) = views-make v b c at from m (a .run) h′ y′ o live-at (omega (arith, part-ideal v b c from m there, rest-at)) in
         record {
           done = λ d.
               record {
@@ -123,7 +126,7 @@ module _ {s : BatchCoalescer} {books : List ℕ} {b : Batch} {c : ℕ} {v : Worl
     splits l = rw (o, ← rest-at, lt-leb (ideal v b c) rest l)
 
     first : LeavesLists c v (viewsCompacted v b c at from j)
-    first = views-make v b c at from j (a .run) h′ y′ o (omega (arith, walked-rest v b c from m rest, rest-at))
+    first = views-make v b c at from j (a .run) h′ y′ o live-at (omega (arith, walked-rest v b c from m rest, rest-at))
 
     abbrev w : World
     w = first .world

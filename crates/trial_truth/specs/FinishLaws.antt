@@ -54,7 +54,7 @@ close v c = cond (isViews (v .state) c) (closed v c) v
 -- the world with those of the first n columns closed: only lists of the slot being filled are longer
 record ClosesTo (v : World) (n : ℕ) (w : World) : Type 0 where
   along : Along v w
-  alike : Alike (v .books) (w .books)
+  alike : Alike (v .books) (w .books) (v .state .numbers)
   lists : (slot d : ℕ) → d < v .state .columns → slot ≢ v .state .place → listLength w slot d ≡ listLength v slot d
   state : w .state ≡ closedTo (v .state) n
 
@@ -67,7 +67,7 @@ closes-one v w n h a = go (isViews (w .state) n) refl
         let m : ColumnMoves n w (closed w n) = closed-moves w n (a .along .goes .run) (along-in (a .along .beside) n h) y in
         record {
           along = along-trans (a .along) (m .along);
-          alike = alike-trans (a .alike) (m .alike);
+          alike = alike-trans (a .along .beside .set-up .numbers) (a .alike) (m .alike);
           lists = λ slot d g o. m .lists slot d (along-in (a .along .beside) d g) (λ e. absurd (o (e ∙ a .along .beside .place))) ∙ a .lists slot d g o;
           state = closed-state w n ∙ sym (rw (← a .state, y));
         }
@@ -76,7 +76,7 @@ closes-one v w n h a = go (isViews (w .state) n) refl
 
 closes-to : (v : World) (n : ℕ) → Run v → n ≤ v .state .columns → ClosesTo v n (each n close v)
 unfolding each closedTo
-closes-to v zero r h = record { along = along-refl r; alike = alike-refl (v .books); lists = λ slot d g o. refl; state = refl }
+closes-to v zero r h = record { along = along-refl r; alike = alike-refl (v .books) (v .state .numbers); lists = λ slot d g o. refl; state = refl }
 closes-to v (suc n) r h = closes-one v (each n close v) n h (closes-to v n r (omega arith))
 
 all-closes : (v : World) → Run v → ClosesTo v (v .state .columns) (allClosed v)
@@ -85,7 +85,7 @@ all-closes v r = closes-to v (v .state .columns) r (omega arith)
 
 -- ---- the slot queued
 
-queued-alike : (w : World) (rows : ℕ) → usedOf (w .books) ≤ w .state .numbers → Alike (w .books) (queueing w rows .books)
+queued-alike : (w : World) (rows : ℕ) → usedOf (w .books) ≤ w .state .numbers → Alike (w .books) (queueing w rows .books) (w .state .numbers)
 unfolding queueing counting
 queued-alike w rows u = tally-alike (tally (w .state) (w .state .place) 0) rows u
 
@@ -208,7 +208,10 @@ module _ {s : BatchCoalescer} {books : List ℕ} {b : Batch} {m : ℕ} {v : Worl
           set-up = rw state (same-refl t);
           place = ap (λ (x : BatchCoalescer). x .place) state;
           queued = ap (λ (x : BatchCoalescer). x .queued) state;
-          alike = alike-trans (a .alike) (alike-trans (shut .alike) (queued-alike w rows (shut .along .goes .run .used)));
+          alike =
+              rw (same .numbers)
+              (alike-trans (a .set-up .numbers) (a .alike)
+              (alike-trans (shut .along .beside .set-up .numbers) (shut .alike) (queued-alike w rows (shut .along .goes .run .used))));
           lists = λ slot c h x.
               let g : c < s .columns = omega (arith, same .columns) in
               let f : Further s m slot c = further s t m slot c (omega (arith, a .run .fit .place, a .place, a .set-up .queue)) l place-at queued-at (same .queue) x in

@@ -9,6 +9,7 @@ pub mod ColumnLaws
 pub mod CompactLaws
 pub mod TellLaws
 pub mod Tells
+pub mod OwnLaws
 pub mod PartLaws
 pub mod FinishLaws
 pub mod CutLaws

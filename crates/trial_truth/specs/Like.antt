@@ -9,7 +9,7 @@ use Rattle.blocks.specs.Block.{asked}
 use Rattle.listings.specs.Listing.{taken}
 use Rattle.room.specs.declared.Room.{Room}
 use Rattle.room.specs.declared.Chosen.{Chosen}
-use Rattle.room.specs.Room.{chosen, entryAt}
+use Rattle.room.specs.Room.{blockRoom, entryAt}
 use Rattle.state.specs.declared.BatchCoalescer.{BatchCoalescer}
 use Rattle.state.specs.declared.OpenBlock.{OpenBlock}
 use Rattle.state.specs.World.{World, world, columnOf}
@@ -56,7 +56,7 @@ pub record Like (s : BatchCoalescer) (books : List ℕ) (b : Batch) (m : ℕ) (v
   pub set-up : SameSetUp s (v .state)
   pub place : v .state .place ≡ s .place
   pub queued : v .state .queued ≡ s .queued
-  pub alike : Alike books (v .books)
+  pub alike : Alike books (v .books) (s .numbers)
   pub lists : (slot c : ℕ) → c < s .columns → Untouched s m slot c → listLength v slot c ≡ listLength (world s [] [] books) slot c
   pub live : (c k : ℕ) → m ≤ c → ColumnOpens s c k → (k < usedOf books) × (isFree (entryOf books k) ≡ false)
   pub filled : (c k : ℕ) → m ≤ c → ColumnOpens s c k → entryOf (v .books) k .length .0 ≡ entryOf books k .length .0
@@ -77,7 +77,7 @@ pub record Follows (x : Res) (b : Batch) (m : ℕ) (q : Step) (books : List ℕ)
 -- what the part of column c makes of a world: its own list is longer, its own block is filled further or closed
 pub record ColumnMoves (c : ℕ) (v v′ : World) : Type 0 where
   pub along : Along v v′
-  pub alike : Alike (v .books) (v′ .books)
+  pub alike : Alike (v .books) (v′ .books) (v .state .numbers)
   pub lists : (slot d : ℕ) → d < v .state .columns → (slot ≡ v .state .place → d ≢ c) → listLength v′ slot d ≡ listLength v slot d
   pub length : (k : ℕ) → k < usedOf (v .books) → (columnOf (v .state) c .block ≡ OpenBlock.Number (record { 0 = k }) → ⊥) → entryOf (v′ .books) k .length .0 ≡ entryOf (v .books) k .length .0
   pub block : (k : ℕ) → columnOf (v′ .state) c .block ≡ OpenBlock.Number (record { 0 = k }) → columnOf (v .state) c .block ≡ OpenBlock.Number (record { 0 = k })
@@ -105,8 +105,8 @@ pub record Took (s : BatchCoalescer) (books : List ℕ) (c min : ℕ) (room : Ro
 -- 10 where the list of n numbers is full; else as is chosen
 pub record Buffers (s : BatchCoalescer) (books : List ℕ) (c n min : ℕ) (q : Step) (books′ : List ℕ) : Type 0 where
   pub full : s .lists ≤ n → q .number ≡ 10
-  pub refused : n < s .lists → (number : ℕ) → chosen books (s .numbers) (s .pool .0) (sizeFor s c min) ≡ Chosen.Refused number → q .number ≡ number
-  pub opened : n < s .lists → (room : Room) → chosen books (s .numbers) (s .pool .0) (sizeFor s c min) ≡ Chosen.At room → Took s books c min room q books′
+  pub refused : n < s .lists → (number : ℕ) → blockRoom books (s .numbers) (s .pool .0) (sizeFor s c min) ≡ Chosen.Refused number → q .number ≡ number
+  pub opened : n < s .lists → (room : Room) → blockRoom books (s .numbers) (s .pool .0) (sizeFor s c min) ≡ Chosen.At room → Took s books c min room q books′
 
 -- ---- a column on trial, whatever world of a push it stands for
 

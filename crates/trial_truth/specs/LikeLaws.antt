@@ -99,7 +99,7 @@ like-state {s} {t} {books} {b} {m} {v} a e p q same =
       set-up = same-trans (same-sym e) (a .set-up);
       place = a .place ∙ sym p;
       queued = a .queued ∙ sym q;
-      alike = a .alike;
+      alike = rw (e .numbers) (a .alike);
       lists = λ slot c h u.
           a .lists slot c (omega (arith, e .columns))
           (record {
@@ -138,7 +138,7 @@ like-moves {s} {books} {b} {c} {v} {v′} a m h y q =
       set-up = same-trans (a .set-up) (m .along .beside .set-up);
       place = m .along .beside .place ∙ a .place;
       queued = m .along .beside .queued ∙ a .queued;
-      alike = alike-trans (a .alike) (m .alike);
+      alike = alike-trans (a .set-up .numbers) (a .alike) (m .alike);
       lists = λ slot d g u.
           m .lists slot d (omega (arith, a .set-up .columns)) (λ e z. omega (arith, u .here (e ∙ a .place)))
           ∙ a .lists slot d g (record { later = u .later; around = u .around; here = λ e. omega (arith, u .here e) });

@@ -2,7 +2,7 @@
 use Prim.Native.Nat.{ℕ, _+_, _*_, _-_, _≤_, _<_}
 use mathlib.Core.Path.{_≡_, refl, sym, _∙_, ap}
 use mathlib.Core.Logic.{_≢_}
-use mathlib.Core.Bool.{Bool, true}
+use mathlib.Core.Bool.{Bool, true, false}
 use native.Mathlib.Omega.{arith}
 use lib.ListN.{length}
 use borrow.Author.Tests.{le-leb}
@@ -12,7 +12,7 @@ use Rattle.words.specs.Run.{lay}
 use Rattle.words.specs.Frame.{Framed}
 use Rattle.words.specs.RunLaws.{length-lay}
 use Rattle.views.specs.View.{isInline, repointed}
-use Rattle.books.specs.Entry.{usedOf, entryOf}
+use Rattle.books.specs.Entry.{usedOf, entryOf, isFree}
 use Rattle.listings.specs.Listing.{listedOne, overList}
 use Rattle.sound.specs.Change.{withLength}
 use Rattle.tallies.specs.TallyLaws.{entry-withTally}
@@ -48,7 +48,7 @@ unfolding listLength
 moves-slots c {v} {v′} a e q =
     record {
       along = a;
-      alike = rw q (alike-refl (v .books));
+      alike = rw q (alike-refl (v .books) (v .state .numbers));
       lists = λ slot d h n. rw (e, q);
       length = λ k u n. rw q;
       block = λ k o. rw e at o;
@@ -58,7 +58,7 @@ pub moves-trans : {c : ℕ} {v u w : World} → ColumnMoves c v u → ColumnMove
 moves-trans {c} {v} {u} {w} a b =
     record {
       along = along-trans (a .along) (b .along);
-      alike = alike-trans (a .alike) (b .alike);
+      alike = alike-trans (a .along .beside .set-up .numbers) (a .alike) (b .alike);
       lists = λ slot d h n.
           b .lists slot d (omega (arith, a .along .beside .set-up .columns)) (λ e. n (e ∙ a .along .beside .place)) ∙ a .lists slot d h n;
       length = λ k g n. b .length k (omega (arith, a .alike .used)) (λ o. n (a .block k o)) ∙ a .length k g n;
@@ -72,7 +72,7 @@ long-mono w b c from i n h =
     let e : i + (n - i) ≡ n = omega arith in
     omega (arith, rw e at (Rattle.push_safety.specs.SumLaws.before-more w b c from i (n - i)))
 
-module _ (v : World) (b : Batch) (c at from n : ℕ) (r : Run v) (h : c < v .state .columns) (y : isViews (v .state) c ≡ true) (o : isOpen v c ≡ true) (l : longBefore v b c from n ≤ openRest v c) where
+module _ (v : World) (b : Batch) (c at from n : ℕ) (r : Run v) (h : c < v .state .columns) (y : isViews (v .state) c ≡ true) (o : isOpen v c ≡ true) (live : isFree (entryOf (v .books) (openNumber v c)) ≡ false) (l : longBefore v b c from n ≤ openRest v c) where
   before : (i : ℕ) → longTo (viewsFrom v b c from) i ≡ longBefore v b c from i
   unfolding longBefore
   before i = refl
@@ -110,7 +110,7 @@ module _ (v : World) (b : Batch) (c at from n : ℕ) (r : Run v) (h : c < v .sta
                     goes = holds-ok v′ (compacted-goes v b c at from n r h y o l) e;
                     beside = holds-ok v′ (views-holds v b c at from n) e;
                   };
-              alike = rw q (length-alike k x (run-firm r .books) (open-used c r h y o) fits);
+              alike = rw q (length-alike k x (run-firm r .books) (open-used c r h y o) live fits);
               lists = λ slot d g m. lists-at slot d;
               length = λ j g m. at-other j m;
               block = λ j m. rw s at m;
@@ -159,12 +159,12 @@ module _ (v : World) (c : ℕ) (r : Run v) (h : c < v .state .columns) (y : isVi
       (λ e q. absurd (n e (omega arith))) refl)
       (λ o. refl)
 
-  closed-alike : Alike (v .books) (closed v c .books)
+  closed-alike : Alike (v .books) (closed v c .books) (v .state .numbers)
   unfolding closed listing counting
   closed-alike =
-      by-cond (λ (u : World). Alike (v .books) (u .books)) (isOpen v c)
+      by-cond (λ (u : World). Alike (v .books) (u .books) (v .state .numbers)) (isOpen v c)
       (λ o. tally-alike (tally (v .state) (filling v) (c + 1)) (listLength v (filling v) c + 1) (r .used))
-      (λ o. alike-refl (v .books))
+      (λ o. alike-refl (v .books) (v .state .numbers))
 
   closed-entry : (k : ℕ) → k < v .state .numbers → entryOf (closed v c .books) k ≡ entryOf (v .books) k
   unfolding closed listing counting
@@ -216,15 +216,15 @@ module _ (v : World) (b : Batch) (c : ℕ) (r : Run v) (h : c < v .state .column
       (λ e q. absurd (n e (omega arith)))
       (same-list-length v written (same-refl (v .state)) (books .1) slot d)
 
-  more : MoreListed (v .books) (written .books)
+  more : MoreListed (v .books) (written .books) (v .state .numbers)
   more = over-listed (listOf b c) (recordOf b c .count) (run-firm r .books) (λ k g. rw (listed-word b c k g) (x .held k g))
 
   few : usedOf (written .books) ≤ v .state .numbers
   few = books .0 .run .used
 
-  list-alike : Alike (v .books) (listAttached v b c .books)
+  list-alike : Alike (v .books) (listAttached v b c .books) (v .state .numbers)
   unfolding listAttached counting
-  list-alike = alike-trans (more .alike) (tally-alike (tally (v .state) (filling v) (c + 1)) joint few)
+  list-alike = alike-trans refl (more .alike) (tally-alike (tally (v .state) (filling v) (c + 1)) joint few)
 
   list-entry : (k : ℕ) → k < v .state .numbers → entryOf (listAttached v b c .books) k .length .0 ≡ entryOf (v .books) k .length .0
   unfolding listAttached counting

@@ -21,8 +21,8 @@ use Rattle.sound.specs.Change.{Roomy, Changed}
 use Rattle.sound.specs.OpLaws.{taken-changed, used-taken}
 use Rattle.room.specs.declared.Room.{Room}
 use Rattle.room.specs.declared.Chosen.{Chosen}
-use Rattle.room.specs.Room.{chosen, entryAt, openedAs, opened}
-use Rattle.room.specs.RoomLaws.{Found-room, room-says}
+use Rattle.room.specs.Room.{blockRoom, entryAt, openedAs, opened}
+use Rattle.room.specs.RoomLaws.{Found-room, room-says, block-says}
 use Rattle.state.specs.declared.BatchCoalescer.{BatchCoalescer}
 use Rattle.state.specs.declared.Column.{Column}
 use Rattle.state.specs.declared.OpenBlock.{OpenBlock}
@@ -30,11 +30,11 @@ use Rattle.state.specs.World.{World, world, columnOf}
 use Rattle.state.specs.Layout.{isViews, listLength}
 use Rattle.rules.specs.Batch.{Batch}
 use Rattle.rules.specs.Steps.{ok, refuse, bind, withColumn, inState, inBooks}
-use Rattle.rules.specs.Views.{filling, blockOpened, longBefore, viewsCompacted}
+use Rattle.rules.specs.Views.{filling, blockNumber, openNumber, blockOpened, longBefore, viewsCompacted}
 use Rattle.rules.specs.Held.{among-not, holds-ok}
 use Rattle.rules.specs.Stays.{Beside, same-refl, same-column}
 use Rattle.rules.specs.SameLaws.{same-views, same-long-before}
-use Rattle.rules.specs.PartLaws.{chosen-among, opened-holds}
+use Rattle.rules.specs.PartLaws.{block-among, opened-holds}
 use Rattle.rules.specs.StepLaws.{opened-ten}
 use Rattle.rules.specs.declared.Step.{Step}
 use Rattle.push_safety.specs.Firm.{run-firm, same-list-length}
@@ -43,7 +43,7 @@ use Rattle.push_safety.specs.OpenGoes.{Opened, opened-rest}
 use Rattle.push_safety.specs.CallerLaws.{run-bounds}
 use Rattle.push_safety.specs.Along.{along-in, along-views}
 use Rattle.trial_truth.specs.Alike.{Alike}
-use Rattle.trial_truth.specs.AlikeLaws.{alike-trans, alike-chosen, taken-alike}
+use Rattle.trial_truth.specs.AlikeLaws.{more-used, alike-trans, alike-room, taken-alike}
 use Rattle.trial_truth.specs.Like.{ColumnOpens, Like, Reached, Follows, LeavesLists, sizeFor, Took, Buffers}
 use Rattle.trial_truth.specs.LikeLaws.{column-other}
 use Rattle.trial_truth.specs.MoveLaws.{views-make}
@@ -66,13 +66,6 @@ unfolding isFreeAt
 free-other s i k f h l e =
     let g : isFreeAt s k ≡ true = rw (← e) at f in
     true≢false (sym (rw (lt-ltb k (usedOf s) h) at g) ∙ l)
-
-more-used : (u i : ℕ) → u ≤ cond (ltb i u) u (i + 1)
-more-used u i = go (decLt i u)
-  where
-    go : Dec (i < u) → u ≤ cond (ltb i u) u (i + 1)
-    go (yes d) = rw (lt-ltb i u d) (omega arith)
-    go (no d) = rw (le-ltb i u (omega arith)) (omega arith)
 
 marked-live : (start size : ℕ) → isFree (entryAt start size 0 2 0) ≡ false
 marked-live start size = sym (free-held (entryAt start size 0 2 0) (λ e. omega arith))
@@ -112,9 +105,9 @@ module _ {s : BatchCoalescer} {books : List ℕ} {b : Batch} {c : ℕ} {v : Worl
   same-source : asked (columnOf (v .state) c .source) (record { 0 = min }) .source ≡ source
   same-source = rw (o .source)
 
-  same-chosen : chosen (v .books) (v .state .numbers) (length (v .pool)) (asked (columnOf (v .state) c .source) (record { 0 = min }) .size .0) ≡ chosen books (s .numbers) (s .pool .0) size
-  same-chosen =
-      rw (same-size, a .set-up .numbers, a .run .fit .pool-is, a .set-up .pool) (alike-chosen (a .alike) (s .numbers) (s .pool .0) size)
+  same-room : blockRoom (v .books) (v .state .numbers) (length (v .pool)) (asked (columnOf (v .state) c .source) (record { 0 = min }) .size .0) ≡ blockRoom books (s .numbers) (s .pool .0) size
+  same-room =
+      rw (same-size, a .set-up .numbers, a .run .fit .pool-is, a .set-up .pool) (alike-room (a .alike) (s .pool .0) size)
 
   h′ : c < v .state .columns
   h′ = omega (arith, o .column, a .set-up .columns)
@@ -125,7 +118,7 @@ module _ {s : BatchCoalescer} {books : List ℕ} {b : Batch} {c : ℕ} {v : Worl
   small : s .pool .0 < 2 ^ 32
   small = omega (arith, run-bounds (a .run) .pool, ap (λ p. p .0) (a .set-up .pool))
 
-  module _ (room : Room) (e : chosen books (s .numbers) (s .pool .0) size ≡ Chosen.At room) where
+  module _ (room : Room) (e : blockRoom books (s .numbers) (s .pool .0) size ≡ Chosen.At room) where
     abbrev i : ℕ
     i = room .number .0
 
@@ -136,7 +129,7 @@ module _ {s : BatchCoalescer} {books : List ℕ} {b : Batch} {c : ℕ} {v : Worl
     real = entryAt (room .start) size 0 0 1
 
     found : Found-room books (s .numbers) (s .pool .0) size room
-    found = room-says books (s .numbers) (s .pool .0) size room e
+    found = room-says books (s .numbers) (s .pool .0) size room (block-says books (s .numbers) (s .pool .0) size room e .chooses)
 
     fits : room .start + size ≤ s .pool .0
     fits = omega (arith, found .gap .fits)
@@ -150,7 +143,7 @@ module _ {s : BatchCoalescer} {books : List ℕ} {b : Batch} {c : ℕ} {v : Worl
     done : Changed (v .books) (taken (v .books) i real) (s .numbers) i real
     done = taken-changed i roomy′ (found .number .below) real (small-fits (room .start) size (s .pool .0) 0 1 fits small (omega arith) (omega arith))
 
-    both : Alike (taken books i mark) (taken (v .books) i real)
+    both : Alike (taken books i mark) (taken (v .books) i real) (s .numbers)
     both =
         taken-alike (a .alike)
         (record {
@@ -171,7 +164,7 @@ module _ {s : BatchCoalescer} {books : List ℕ} {b : Batch} {c : ℕ} {v : Worl
     module _ (n : listLength v (filling v) c + 1 ≤ v .state .lists) where
       opens : blockOpened v c min ≡ ok u
       unfolding blockOpened opened openedAs
-      opens = rw (le-leb (listLength v (filling v) c + 1) (v .state .lists) n, same-chosen, e, same-size, same-source)
+      opens = rw (le-leb (listLength v (filling v) c + 1) (v .state .lists) n, same-room, e, same-size, same-source)
 
       new : Opened v c min u
       new = opened-rest v c min u (a .run) h′ y′ opens
@@ -179,9 +172,16 @@ module _ {s : BatchCoalescer} {books : List ℕ} {b : Batch} {c : ℕ} {v : Worl
       beside : Beside v u
       beside = holds-ok u (opened-holds v c min) opens
 
+      number-here : openNumber u c ≡ i
+      unfolding openNumber
+      number-here = ap (λ (x : Column). blockNumber (x .block)) (column-new (v .state) c source (OpenBlock.Number (room .number)) y′)
+
+      live-here : isFree (entryOf (u .books) (openNumber u c)) ≡ false
+      live-here = rw number-here (ap isFree (done .same) ∙ opened-live (room .start) size)
+
       fills : LeavesLists c u (viewsCompacted u b c at from m)
       fills =
-          views-make u b c at from m (new .goes .run) (along-in beside c h′) (along-views beside c y′) (new .is-open)
+          views-make u b c at from m (new .goes .run) (along-in beside c h′) (along-views beside c y′) (new .is-open) live-here
           (omega (arith, l, new .rest, same-long-before v u b (beside .set-up) c from m))
 
       abbrev w : World
@@ -225,7 +225,7 @@ module _ {s : BatchCoalescer} {books : List ℕ} {b : Batch} {c : ℕ} {v : Worl
             set-up = rw state (same-refl t);
             place = ap (λ (x : BatchCoalescer). x .place) state;
             queued = ap (λ (x : BatchCoalescer). x .queued) state;
-            alike = alike-trans both (fills .moves .alike);
+            alike = alike-trans (a .set-up .numbers) both (fills .moves .alike);
             lists = λ slot d g x.
                 fills .moves .lists slot d (omega (arith, a .set-up .columns)) (λ p q. omega (arith, x .here (p ∙ a .place)))
                 ∙ same-list-length v u (beside .set-up) (rw (a .set-up .numbers) (done .framed)) slot d
@@ -252,9 +252,9 @@ module _ {s : BatchCoalescer} {books : List ℕ} {b : Batch} {c : ℕ} {v : Worl
             like = rw (k .state, k .books-are) like;
           }
 
-  opened-not : (k : ℕ) → listLength v (filling v) c + 1 ≤ v .state .lists → chosen books (s .numbers) (s .pool .0) size ≡ Chosen.Refused k → blockOpened v c min ≡ refuse k
+  opened-not : (k : ℕ) → listLength v (filling v) c + 1 ≤ v .state .lists → blockRoom books (s .numbers) (s .pool .0) size ≡ Chosen.Refused k → blockOpened v c min ≡ refuse k
   unfolding blockOpened opened openedAs
-  opened-not k n e = rw (le-leb (listLength v (filling v) c + 1) (v .state .lists) n, same-chosen, e)
+  opened-not k n e = rw (le-leb (listLength v (filling v) c + 1) (v .state .lists) n, same-room, e)
 
   -- ---- refused in both, or opened in both
 
@@ -268,12 +268,12 @@ module _ {s : BatchCoalescer} {books : List ℕ} {b : Batch} {c : ℕ} {v : Worl
             not = λ x. rw (o, p);
           }
 
-      refused : (k : ℕ) → n < s .lists → chosen books (s .numbers) (s .pool .0) size ≡ Chosen.Refused k → blockOpened v c min ≡ refuse k
+      refused : (k : ℕ) → n < s .lists → blockRoom books (s .numbers) (s .pool .0) size ≡ Chosen.Refused k → blockOpened v c min ≡ refuse k
       refused k g o = opened-not k (omega (arith, e, a .set-up .lists)) o
 
-      by : (x : Chosen) → n < s .lists → chosen books (s .numbers) (s .pool .0) size ≡ x → Follows (bind (blockOpened v c min) (λ x. viewsCompacted x b c at from m)) b (c + 1) q books′
+      by : (x : Chosen) → n < s .lists → blockRoom books (s .numbers) (s .pool .0) size ≡ x → Follows (bind (blockOpened v c min) (λ x. viewsCompacted x b c at from m)) b (c + 1) q books′
       by (Chosen.Refused k) g o =
-          stopped k (among-not 0 refl (chosen-among books (s .numbers) (s .pool .0) size k o)) (t .refused g k o) (refused k g o)
+          stopped k (among-not 0 refl (block-among books (s .numbers) (s .pool .0) size k o)) (t .refused g k o) (refused k g o)
       by (Chosen.At room) g o =
           let k = t .opened g room o in
           record {
@@ -282,6 +282,6 @@ module _ {s : BatchCoalescer} {books : List ℕ} {b : Batch} {c : ℕ} {v : Worl
           }
 
       go : Dec (n < s .lists) → Follows (bind (blockOpened v c min) (λ x. viewsCompacted x b c at from m)) b (c + 1) q books′
-      go (yes g) = by (chosen books (s .numbers) (s .pool .0) size) g refl
+      go (yes g) = by (blockRoom books (s .numbers) (s .pool .0) size) g refl
       go (no g) =
           stopped 10 (λ z. omega arith) (t .full (omega arith)) (opened-ten v c min (omega (arith, e, a .set-up .lists)))

@@ -7,9 +7,6 @@ use native.Mathlib.Omega.{arith}
 use native.Mathlib.Decide.{ℕ-discrete}
 use lib.Dec.{ltb, leb}
 use Rattle.search.specs.Every.{every}
-use Rattle.words.specs.Frame.{Framed}
-use Rattle.books.specs.declared.Entry.{Entry}
-use Rattle.books.specs.Entry.{usedOf, entryOf, isFree}
 use Rattle.state.specs.declared.BatchCoalescer.{BatchCoalescer}
 use Rattle.state.specs.World.{World, world}
 use Rattle.state.specs.Layout.{listLength}
@@ -27,33 +24,28 @@ use Rattle.routes.specs.Route.{routeOf, wholeRefusal}
 use Rattle.routes.specs.RouteLaws.{route-says-whole, route-says-first, route-says-on}
 use Rattle.push_safety.specs.Run.{Run, Readable}
 use Rattle.push_safety.specs.Firm.{same-list-length}
-use Rattle.trial_truth.specs.Alike.{Alike}
-use Rattle.trial_truth.specs.AlikeLaws.{every-below}
+use Rattle.trial_truth.specs.AlikeLaws.{alike-refl, every-below}
 use Rattle.trial_truth.specs.Like.{numberOf, ColumnOpens, OwnBlocks, Untouched, Like}
 use Rattle.trial_truth.specs.Tells.{TellsFinished, TellsRows, TellsWhole, TellsFirst, Tells}
 
 -- ---- where they begin alike
 
--- the books of the push may differ from those that the trial began with in entries of free numbers
-pub like-begins : (s : BatchCoalescer) (books : List ℕ) (b : Batch) (v : World) → v .state ≡ s → Run v → Readable v b → OwnBlocks s books → Alike books (v .books) → Framed 0 (4 + 20 * s .numbers) books (v .books) → ((k : ℕ) → k < usedOf books → isFree (entryOf books k) ≡ false → entryOf (v .books) k ≡ entryOf books k) → Like s books b 0 v
-like-begins s books b v e r x p a f g =
+-- on the same state and books
+pub like-begins : (s : BatchCoalescer) (slots pool books : List ℕ) (b : Batch) → Run (world s slots pool books) → Readable (world s slots pool books) b → OwnBlocks s books → Like s books b 0 (world s slots pool books)
+unfolding listLength
+like-begins s slots pool books b r x p =
     record {
       run = r;
       reads = x;
-      set-up = rw e (same-refl s);
-      place = ap (λ (t : BatchCoalescer). t .place) e;
-      queued = ap (λ (t : BatchCoalescer). t .queued) e;
-      alike = a;
-      lists = λ slot c h u. same-list-length (world s [] [] books) v (rw e (same-refl s)) f slot c;
-      live = λ c k h o. (used c k o, p .live c k o);
-      filled = λ c k h o. ap (λ (y : Entry). y .length .0) (g k (used c k o) (p .live c k o));
+      set-up = same-refl s;
+      place = refl;
+      queued = refl;
+      alike = alike-refl books (s .numbers);
+      lists = λ slot c h u. refl;
+      live = λ c k h o. (r .block c (record { 0 = k }) (o .column) (o .views) (o .block), p .live c k o);
+      filled = λ c k h o. refl;
       apart = λ c d k h l o q. omega (arith, p .apart c d k o q);
     }
-  where
-    used : (c k : ℕ) → ColumnOpens s c k → k < usedOf books
-    used c k o =
-        let z : k < usedOf (v .books) = r .block c (record { 0 = k }) (rw e (o .column)) (rw e (o .views)) (rw e (o .block)) in
-        omega (arith, z, a .used)
 
 -- ---- queueing whole
 

@@ -93,8 +93,11 @@ fn column_in_range(world: &World, c: usize) -> Result<(), Refused> {
     unless(column.kept >= 4_096, 14, "a view column's kept block size below 4,096")?;
     unless(column.kept <= 1_048_576, 14, "a view column's kept block size over 1,048,576")?;
     if let Some(number) = column.open {
-        unless(number < world.used(), 14, "an open block whose number is not in use")?;
+        unless(number < s.numbers, 14, "an open block whose number is not below N")?;
+        unless(world.buffer(number).is_some(), 14, "an open block that is a free number")?;
         unless(world.list_length(c) < s.lists, 14, "an open block that its list has no place for")?;
+        let open_too = |d: usize| s.is_view(d) && s.column[d].open == Some(number);
+        unless(!(0..c).any(open_too), 14, "an open block of two columns")?;
     }
     Ok(())
 }

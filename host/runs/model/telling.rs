@@ -72,6 +72,7 @@ impl Player {
             11 => self.books(),
             12 => self.overwrite(a, b as usize, c as usize),
             13 => self.lend(item),
+            14 => self.show(a, b as usize, c as usize),
             _ => {
                 self.said.extend_from_slice(item.second);
                 self.say("\n");
@@ -232,6 +233,20 @@ impl Player {
             let place = format!("start {start}, capacity {capacity}, length {length}");
             let _ = writeln!(self.said, "  {i}: {place}, hold {hold}, listings {listings}");
         }
+    }
+
+    /// Bytes of what is lent as they stand: 0 the state, 1 the slots, 2 the books, else the pool; none where they are not all there.
+    fn show(&mut self, memory: u32, at: usize, length: usize) {
+        let [slots, books, pool] = self.lent;
+        let m = &self.memory;
+        let (name, bytes) = match memory {
+            0 => ("state", &m.state[..]),
+            1 => ("slots", &m.slots[..slots]),
+            2 => ("books", &m.books[..books]),
+            _ => ("pool", &m.pool[..pool]),
+        };
+        let shown = bytes.get(at..at + length).unwrap_or_default().to_vec();
+        self.say(&format!("{name} at {at}: {}\n", lines::cell(&Some(shown))));
     }
 
     /// A word overwritten, as no history would, where it lies in what is lent: 0 the state, 1 the slots, else the books.

@@ -19,6 +19,8 @@ pub enum Way {
 const FIRST: [&str; 3] = ["opening: a list would pass B", "opening: no free buffer number", "opening: no gap of the capacity wanted"];
 const NEXT: [&str; 3] =
     ["next block: a list would pass B", "next block: no free buffer number", "next block: no gap of the capacity wanted"];
+/// And of 14.
+const NOT_ZERO: &str = "a block: the entry of the free number is not zero";
 
 /// A view's length.
 fn length(view: &[u8]) -> usize {
@@ -139,28 +141,34 @@ impl World {
         }
     }
 
-    /// "Opening a block tests 10, 11, 12"; the open block keeps a place in its list, and "counts as listed".
+    /// "Opening a block tests 10, 11, 12"; the open block keeps a place in its list, and "counts as listed". A free number's "entry in the
+    /// books is zero": 14 where it is not, which no history leaves (DECISIONS, reading 11).
     fn open_block(&mut self, c: usize, minimum: usize, clauses: [&'static str; 3]) -> Result<(), Refused> {
         unless(self.list_length(c) < self.state.lists, 10, clauses[0])?;
         let capacity = self.asked(c, minimum);
         let number = self.free_number(clauses[1])?;
         let start = self.gap(capacity, clauses[2])?;
+        unless(self.entry(number) == Entry::default(), 14, NOT_ZERO)?;
         self.take(number, Entry { start, capacity, length: 0, hold: 0, listings: 1 });
         self.state.column[c].open = Some(number);
         Ok(())
     }
 
-    /// "Block size, per view column, kept across batches": what an ask for a minimum gives, and what is kept after it.
+    /// What an ask of column c for a minimum gives.
     fn asked(&mut self, c: usize, minimum: usize) -> usize {
-        let kept = &mut self.state.column[c].kept;
-        if *kept < 1_048_576 {
+        asked(&mut self.state.column[c].kept, minimum)
+    }
+}
+
+/// "Block size, per view column, kept across batches": what an ask for a minimum gives, and what is kept after it.
+pub fn asked(kept: &mut usize, minimum: usize) -> usize {
+    if *kept < 1_048_576 {
+        *kept *= 2;
+    }
+    if *kept < minimum {
+        while *kept <= minimum && *kept < 1_048_576 {
             *kept *= 2;
         }
-        if *kept < minimum {
-            while *kept <= minimum && *kept < 1_048_576 {
-                *kept *= 2;
-            }
-        }
-        minimum.max(*kept)
     }
+    minimum.max(*kept)
 }

@@ -14,7 +14,7 @@ pub struct World {
 }
 
 /// An entry of the books.
-#[derive(Clone, Copy, Default)]
+#[derive(Clone, Copy, Default, PartialEq, Eq)]
 pub struct Entry {
     pub start: usize,
     pub capacity: usize,

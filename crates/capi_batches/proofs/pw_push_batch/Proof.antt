@@ -1,6 +1,5 @@
 -- `capi_batches::pw_push_batch` meets its contract.
-use Rattle.capi.specs.HandsOn.{hand-not, hand-made}
-use Rattle.capi.specs.ApiLaws.{decoded-length}
+use Rattle.capi.specs.ApiLaws.{decoded-length, number-refused, push-said}
 use borrow.Author.Needs.{needs}
 use Rattle.capi_batches.proofs.pw_push_batch.Statement.{statement}
 use Rattle.capi_batches.proofs.pw_push_batch.Tie as tie
@@ -30,13 +29,13 @@ same-length-4 : tie.Need-same-length-4
 same-length-4 c = search needs
 
 returns : tie.Need-returns
-returns c = search (hand-made, needs)
+returns c = search (push-said, needs)
 
 same-length-5 : tie.Need-same-length-5
 same-length-5 c = search needs
 
 returns-2 : tie.Need-returns-2
-returns-2 c = search (hand-not, needs)
+returns-2 c = search (number-refused, needs)
 
 pub pw-push-batch-spec : {M : Type 1} → statement M
 pw-push-batch-spec =

@@ -1,6 +1,6 @@
 -- `coalesce::push_judged` meets its contract.
 use borrow.Author.Needs.{needs}
-use Rattle.coalesce.specs.ExactLaws.{does-done, does-refused}
+use Rattle.coalesce.specs.ExactLaws.{judged-done, judged-lacks}
 use Rattle.coalesce.specs.PushLaws.{tried-pushing, tried-sourced}
 use Rattle.coalesce.proofs.push_judged.Statement.{statement}
 use Rattle.coalesce.proofs.push_judged.Tie as tie
@@ -24,13 +24,13 @@ same-length-3 : tie.Need-same-length-3
 same-length-3 c = search needs
 
 returns : tie.Need-returns
-returns c = does-done (c .before .before .before .before .before .before .before .before .before .before .before .before .before .before .before .before .before .before .before .before .before .before .pre) (c .before .before .before .before .before .before .before .before .before .before .before .before .before .room-refusal .ensures .0) (c .before .before .before .before .before .before .before .before .before .before .before .before .before .room-refusal .ensures .1) (c .before .before .before .before .before .before .before .before .before .before .if1 .taken) (c .before .before .before .before .before .before .push-rows .ensures)
+returns c = judged-done (c .before .before .before .before .before .before .before .before .before .before .before .before .before .before .before .before .before .before .before .before .before .before .pre) (c .before .before .before .before .before .before .before .before .before .before .before .before .before .room-refusal .ensures .0) (c .before .before .before .before .before .before .before .before .before .before .before .before .before .room-refusal .ensures .1) (c .before .before .before .before .before .before .before .before .before .before .if1 .taken) (c .before .before .before .before .before .before .push-rows .ensures)
 
 same-length-4 : tie.Need-same-length-4
 same-length-4 c = search needs
 
 returns-2 : tie.Need-returns-2
-returns-2 c = does-refused (c .before .before .before .before .before .before .before .before .before .before .before .before .pre) (c .before .before .before .room-refusal .ensures .0) (c .before .before .before .room-refusal .ensures .1) (c .if1 .left)
+returns-2 c = judged-lacks (c .before .before .before .before .before .before .before .before .before .before .before .before .pre) (c .before .before .before .room-refusal .ensures .0) (c .before .before .before .room-refusal .ensures .1) (c .if1 .left)
 
 pub push-judged-spec : {M : Type 1} → statement M
 push-judged-spec =

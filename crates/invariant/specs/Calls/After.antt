@@ -14,12 +14,14 @@ use Rattle.rules.specs.Stays.{same-counts}
 use Rattle.rules.specs.SameLaws.{same-list-place}
 use Rattle.push_safety.specs.StepGoes.{buffering-goes}
 use Rattle.sound.specs.SoundLaws.{sound-recount}
-use Rattle.invariant.specs.Holding.{reach, numberAt, listings, rowsAt, Holding}
+use Rattle.invariant.specs.Holding.{reach, numberAt, listings, rowsAt, Spared, Holding, PoolStays}
 use Rattle.invariant.specs.BeginLaws.{begins-refl}
 use Rattle.invariant.specs.CountLaws.{times-same, listings-same, number-live}
-use Rattle.invariant.specs.AloneLaws.{alone-counts}
+use Rattle.invariant.specs.AloneLaws.{counts-open, alone-counts}
+use Rattle.invariant.specs.PoolLaws.{relisted-is, books-stay, unheld-on}
 use Rattle.invariant.specs.Steps.Moves.{Moves}
-use Rattle.invariant.specs.Steps.MoveLaws.{SameSlots, Remains, remains-shows, remains-holding, rows-other, queued-slot-same}
+use Rattle.invariant.specs.Steps.MoveLaws.{SameSlots, Remains, remains-shows, remains-holding, rows-other, rows-same, queued-slot-same}
+use Rattle.invariant.specs.Steps.SpareMoves.{same-rows, spared-on}
 use Rattle.invariant.specs.RowLaws.{joined-append, rows-read, batches-read}
 
 -- v is w with rows pushed
@@ -97,6 +99,14 @@ module _ (w : World) (n : ℕ) where
   pub buffering-alike : SameSlots w (buffering w n)
   buffering-alike = record { set-up = same-counts (w .state) (w .state .place) (w .state .queued) n; place = refl; queued = refl; slots = refl }
 
+  pub buffering-pool : PoolStays w (buffering w n)
+  buffering-pool =
+      books-stay w (buffering w n) refl refl (λ k l h. h) (λ k l h. relisted-is refl) (λ c k h. counts-open (w .state) (w .state .place) (w .state .queued) n c k)
+
+  pub buffering-spared : {ext : ℕ → ℕ} → Holding w ext → Spared w ext → (ext′ : ℕ → ℕ) → ((c : ℕ) → c < w .state .columns → ext′ c ≡ ext c) → Spared (buffering w n) ext′
+  buffering-spared {ext} a s ext′ e =
+      spared-on ext′ a (buffering-alike .set-up) s (λ slot c p q. same-rows (rows-same w (buffering w n) ext ext′ slot c refl (buffering-rows slot) (e c q)) (λ i l. refl))
+
   buffering-remains : {ext : ℕ → ℕ} → Holding w ext → Remains w ext (buffering w n)
   unfolding columnOf
   buffering-remains a =
@@ -109,6 +119,7 @@ module _ (w : World) (n : ℕ) where
         sizes = a .sizes;
         sixteen = a .sixteen;
         alone = alone-counts (w .state) (w .state .place) (w .state .queued) n (a .alone);
+        unheld = unheld-on a (buffering w n .state) (w .books) (counts-open (w .state) (w .state .place) (w .state .queued) n) (λ k l h z. z);
         rows = λ slot p. buffering-rows slot;
         unlisted = λ slot c p d q. buffering-length slot c;
       }

@@ -10,11 +10,13 @@ use lib.ListN.{length}
 use lib.Dec.{eqb}
 use Rattle.words.specs.WordLaws.{Bytes}
 use Rattle.words.specs.Word.{word32}
+use Rattle.books.specs.declared.Entry.{Entry}
 use Rattle.books.specs.Entry.{usedOf, entryOf, isFree}
 use Rattle.sound.specs.Sound.{Sound}
 use Rattle.sound.specs.SoundLaws.{sound-top, sound-recount}
 use Rattle.sound.specs.Top.{live-used}
 use Rattle.sound.specs.Others.{filled-same}
+use Rattle.sound.specs.ListKept.{Relisted}
 use Rattle.tallies.specs.Tally.{tallyPlace, tallyOf}
 use Rattle.tallies.specs.TallyLaws.{framed-tally}
 use Rattle.views.specs.View.{viewOf, isValid}
@@ -35,12 +37,14 @@ use Rattle.rules.specs.SameLaws.{same-views, same-list-place, same-slots-length
 use Rattle.push_safety.specs.Run.{Run}
 use Rattle.push_safety.specs.Firm.{run-firm, same-bounds}
 use Rattle.push_safety.specs.StepGoes.{tally-room}
-use Rattle.invariant.specs.Holding.{reach, numberAt, timesIn, listings, Queued, rowsAt, Holding, Between, Stands}
+use Rattle.invariant.specs.Holding.{reach, numberAt, timesIn, listings, Unheld, Queued, rowsAt, Holding, Between, Stands}
 use Rattle.invariant.specs.BeginLaws.{begins-is}
 use Rattle.invariant.specs.Rests.{Shows, reach-plain, reach-other, reach-open, number-open, rests-shows}
 use Rattle.invariant.specs.CountLaws.{sum-zero, times-same, listings-slot, listed-counted, number-below}
-use Rattle.invariant.specs.AloneLaws.{alone-counts}
+use Rattle.invariant.specs.AloneLaws.{counts-open, alone-counts}
+use Rattle.invariant.specs.PoolLaws.{relisted-hold, unheld-on}
 use Rattle.invariant.specs.Steps.MoveLaws.{sound-at, rows-filling, rows-other, rows-most, rows-same}
+use Rattle.invariant.specs.Steps.SpareMoves.{SpareCase, no-rows, same-rows, spared-on}
 use Rattle.invariant.specs.RowLaws.{rows-read, upTo-first, upTo-ext}
 use Rattle.invariant.specs.Calls.After.{rows-are}
 use Rattle.invariant.specs.Calls.DropLists.{Unlisted, dropping, lists-dropped, lists-unlisted}
@@ -183,6 +187,18 @@ module _ {w : World} (g : Between w) (some : w .state .queued ≢ 0) where
         begins = begins-is (filled-same books₁ books₂ (w .pool) k (entryOf books₁ k) (ze .entries k l) refl refl ∙ un .filled k l m);
       }
 
+  -- the entry of a number that is live then is as it was but for its listings
+  relisted : (k : ℕ) → k < w .state .numbers → isFree (entryOf books₂ k) ≡ false → Relisted (entryOf (w .books) k) (entryOf books₂ k)
+  relisted k l f = rw (ze .entries k l) (un .relisted k l (ap isFree (sym (ze .entries k l)) ∙ f))
+
+  unheld-here : Unheld state′ books₂
+  unheld-here =
+      unheld-on a state′ books₂ (counts-open (w .state) place (w .state .queued - 1) (w .state .buffered .0)) (λ k l h z. by-free k l z (isFree (entryOf books₂ k)) refl)
+    where
+      by-free : (k : ℕ) → k < w .state .numbers → entryOf (w .books) k .hold ≡ 0 → (b : Bool) → isFree (entryOf books₂ k) ≡ b → entryOf books₂ k .hold ≡ 0
+      by-free k l z true f = ap (λ (e : Entry). e .hold) (sound .zero k l f)
+      by-free k l z false f = relisted-hold (relisted k l f) z
+
   -- ---- slots in turn
 
   queued-is : state′ .queued + 1 ≡ w .state .queued
@@ -270,6 +286,7 @@ module _ {w : World} (g : Between w) (some : w .state .queued ≢ 0) where
         sizes = λ c q y. rw (column c) (a .sizes c q (sym (same-views same c) ∙ y));
         sixteen = a .sixteen;
         alone = alone-counts (w .state) place (w .state .queued - 1) (w .state .buffered .0) (a .alone);
+        unheld = unheld-here;
         uncounted = λ slot p n. uncounted-at slot p n (ℕ-discrete slot front);
         unlisted = λ slot c p d n q. unlisted-at slot c p d n q (ℕ-discrete slot front);
         some = λ slot z. omega (arith, rows-there slot (not-front slot z), a .some slot (queued-was slot z));
@@ -300,11 +317,16 @@ module _ {w : World} (g : Between w) (some : w .state .queued ≢ 0) where
       valid-at slot c i p q y h (no d) =
           shows slot c i p d q (rw (rows-same w v (λ d. w .state .buffered .0) (λ d. w .state .buffered .0) slot c refl (rows-there slot d) refl) at h) .valid y
 
+  spare-case : (slot c : ℕ) → Dec (slot ≡ front) → SpareCase w v (λ c. w .state .buffered .0) (λ c. w .state .buffered .0) slot c
+  spare-case slot c (yes e) = no-rows (rows-other v (λ c. w .state .buffered .0) slot c (λ z. front-other (sym e ∙ z)) ∙ ap (rowsIn v) e ∙ rows-front)
+  spare-case slot c (no d) = same-rows (rows-same w v (λ c. w .state .buffered .0) (λ c. w .state .buffered .0) slot c refl (rows-there slot d) refl) (λ i l. refl)
+
   between : Between v
   between =
       record {
         holding = holding;
         below = g .below;
+        spared = spared-on (λ c. w .state .buffered .0) a same (g .spared) (λ slot c p q. spare-case slot c (ℕ-discrete slot front));
         begun = λ z c q. reaches place c (λ e. front-other (sym e)) q ∙ g .begun z c q;
       }
 
@@ -340,6 +362,13 @@ module _ {w : World} (g : Between w) (some : w .state .queued ≢ 0) where
 
   pub drop-rows : bufferedRows (dropped w) ≡ bufferedRows w
   drop-rows = ap bufferedRows dropped-is ∙ rows
+
+  -- what is left of the pool, and of a number that the caller holds
+  pub drop-pool : dropped w .pool ≡ w .pool
+  drop-pool = ap (λ (t : World). t .pool) dropped-is
+
+  pub drop-held : (k : ℕ) → k < w .state .numbers → 0 < entryOf (w .books) k .hold → Relisted (entryOf (w .books) k) (entryOf (dropped w .books) k)
+  drop-held k l h = rw dropped-is (relisted k l (ap isFree (ze .entries k l) ∙ un .held k l h))
 
   pub drop-bytes : Bytes (w .slots) → Bytes (dropped w .slots)
   drop-bytes z = rw (ap (λ (t : World). t .slots) dropped-is) z

@@ -10,15 +10,16 @@ use Rattle.words.specs.Word.{word32}
 use Rattle.words.specs.Run.{read}
 use Rattle.words.specs.Frame.{Framed}
 use Rattle.words.specs.FrameLaws.{framed-refl, framed-trans, word-read}
+use Rattle.books.specs.declared.Entry.{Entry}
 use Rattle.books.specs.Entry.{entryOf, isFree}
 use Rattle.listings.specs.Listing.{unlistedOne, overList}
 use Rattle.sound.specs.Sound.{Sound, filledBytes}
-use Rattle.sound.specs.Change.{Roomy}
-use Rattle.sound.specs.Live.{live-is}
+use Rattle.sound.specs.Change.{Roomy, listingsAs}
+use Rattle.sound.specs.Live.{live-is, live-says}
 use Rattle.sound.specs.OpLaws.{changed-roomy, unlisted-changed}
 use Rattle.sound.specs.SoundLaws.{sound-roomy, sound-recount}
 use Rattle.sound.specs.Lists.{occurrences, unlisted-all-sound}
-use Rattle.sound.specs.ListKept.{unlisted-all-filled, unlisted-all-live}
+use Rattle.sound.specs.ListKept.{Relisted, unlisted-all-filled, unlisted-all-stays, unlisted-all-live}
 use Rattle.state.specs.World.{World}
 use Rattle.state.specs.Layout.{isViews, listPlace, listLength}
 use Rattle.state.specs.Rows.{listedAt}
@@ -73,6 +74,9 @@ module _ {w : World} {ext : ℕ → ℕ} (slot : ℕ) (a : Holding w ext) (p : s
     pub sound : Sound books (w .state .numbers) (w .state .pool .0) (λ k. listings w k - gone n k)
     pub live : (k : ℕ) → k < w .state .numbers → gone (w .state .columns) k < listings w k → isFree (entryOf books k) ≡ false
     pub filled : (k : ℕ) → k < w .state .numbers → gone (w .state .columns) k < listings w k → filledBytes books (w .pool) k ≡ filledBytes (w .books) (w .pool) k
+    -- the entry of a number that is live then is as it was but for its listings; and what the caller holds is live
+    pub relisted : (k : ℕ) → k < w .state .numbers → isFree (entryOf books k) ≡ false → Relisted (entryOf (w .books) k) (entryOf books k)
+    pub held : (k : ℕ) → k < w .state .numbers → 0 < entryOf (w .books) k .hold → isFree (entryOf books k) ≡ false
 
   none-yet : Unlisted 0 (w .books)
   unfolding sumTo
@@ -82,6 +86,8 @@ module _ {w : World} {ext : ℕ → ℕ} (slot : ℕ) (a : Holding w ext) (p : s
         sound = sound-recount (λ k. listings w k - 0) (a .sound) (λ k l. omega arith);
         live = λ k l m. live-is (entryOf (w .books) k) (omega (arith, a .sound .counted k l));
         filled = λ k l m. refl;
+        relisted = λ k l f. record { is = refl };
+        held = λ k l h. live-is (entryOf (w .books) k) (omega arith);
       }
 
   below : (c k : ℕ) → c < w .state .columns → k < listLength w slot c → word32 (list c) (4 * k) < w .state .numbers
@@ -95,8 +101,33 @@ module _ {w : World} {ext : ℕ → ℕ} (slot : ℕ) (a : Holding w ext) (p : s
         sound = sound-recount _ (unlisted-all-sound (list c) (listLength w slot c) (u .sound) (λ k l. below c k q l)) (λ k l. omega (arith, occurs-is c k q));
         live = λ k l m. still k l m;
         filled = λ k l m. unlisted-all-filled (list c) (u .sound) (w .pool) (listLength w slot c) (λ k l. below c k q l) k l (still k l m) ∙ u .filled k l m;
+        relisted = λ k l f. relisted k l f;
+        held = held;
       }
     where
+      after : List ℕ
+      after = overList unlistedOne books (list c) (listLength w slot c)
+
+      entry : (k : ℕ) → k < w .state .numbers → isFree (entryOf after k) ≡ false → entryOf after k ≡ listingsAs (entryOf books k) (listings w k - gone c k - occurrences (list c) (listLength w slot c) k)
+      entry k l f = unlisted-all-stays (list c) (u .sound) (listLength w slot c) (λ k l. below c k q l) k l f
+
+      -- what is live then was live before
+      was : (k : ℕ) → k < w .state .numbers → isFree (entryOf after k) ≡ false → isFree (entryOf books k) ≡ false
+      was k l f =
+          let e = entry k l f in
+          live-is (entryOf books k) (omega (arith, live-says (entryOf after k) f, ap (λ (x : Entry). x .hold) e, ap (λ (x : Entry). x .listings) e, u .sound .counted k l))
+
+      relisted : (k : ℕ) → k < w .state .numbers → isFree (entryOf after k) ≡ false → Relisted (entryOf (w .books) k) (entryOf after k)
+      relisted k l f =
+          let r = u .relisted k l (was k l f) in
+          let e = entry k l f in
+          record { is = e ∙ ap (λ (x : Entry). listingsAs x (listings w k - gone c k - occurrences (list c) (listLength w slot c) k)) (r .is) ∙ ap (listingsAs (entryOf (w .books) k)) (sym (ap (λ (x : Entry). x .listings) e)) }
+
+      held : (k : ℕ) → k < w .state .numbers → 0 < entryOf (w .books) k .hold → isFree (entryOf after k) ≡ false
+      held k l h =
+          let r = u .relisted k l (u .held k l h) in
+          unlisted-all-live (list c) (u .sound) (listLength w slot c) (λ k l. below c k q l) k l (omega (arith, ap (λ (x : Entry). x .hold) (r .is)))
+
       still : (k : ℕ) → k < w .state .numbers → gone (w .state .columns) k < listings w k → isFree (entryOf (overList unlistedOne books (list c) (listLength w slot c)) k) ≡ false
       still k l m =
           unlisted-all-live (list c) (u .sound) (listLength w slot c) (λ k l. below c k q l) k l

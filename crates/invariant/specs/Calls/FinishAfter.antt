@@ -18,34 +18,48 @@ use Rattle.rules.specs.Stays.{SameSetUp, same-refl}
 use Rattle.push_safety.specs.TestedLaws.{bounds-say}
 use Rattle.push_safety.specs.Firm.{goes-refl}
 use Rattle.push_safety.specs.FinishGoes.{Shut, all-closed-shut}
-use Rattle.invariant.specs.Holding.{Holding, Between}
-use Rattle.invariant.specs.Steps.Moves.{Moves}
-use Rattle.invariant.specs.Steps.MoveLaws.{moves-refl, moves-trans, stands-refl, rows-filling}
-use Rattle.invariant.specs.Steps.CloseMoves.{closed-moves}
+use Rattle.invariant.specs.Holding.{Spared, Holding, Between}
+use Rattle.invariant.specs.PoolLaws.{pool-refl}
+use Rattle.invariant.specs.Steps.Moves.{Moves, BitsStill}
+use Rattle.invariant.specs.Steps.MoveLaws.{moves-refl, moves-trans, still-refl, still-trans, stands-refl, rows-filling}
+use Rattle.invariant.specs.Steps.SpareMoves.{spared-still, spared-ext}
+use Rattle.invariant.specs.Steps.CloseMoves.{closed-moves, closed-still}
 use Rattle.invariant.specs.Steps.PartCompact.{holding-ext}
 use Rattle.invariant.specs.RowLaws.{rows-read}
 use Rattle.invariant.specs.Calls.After.{After, after-same, moves-batches, rows-are}
 use Rattle.invariant.specs.Calls.TakeAfter.{LaterInPush, along-trans}
-use Rattle.invariant.specs.Calls.QueueAfter.{queue-holding, queue-begun, queue-none, queue-batches, queue-rows, queue-along}
+use Rattle.invariant.specs.Calls.QueueAfter.{queue-holding, queue-begun, queue-none, queue-spared, queue-batches, queue-rows, queue-along}
 
 -- ---- every block closed
 
 abbrev close : World → ℕ → World
 close v c = cond (isViews (v .state) c) (closed v c) v
 
-close-one : {w v : World} {ext : ℕ → ℕ} (n : ℕ) → Moves w ext v ext → n < w .state .columns → Moves w ext (close v n) ext
-close-one {w} {v} {ext} n m h = moves-trans m (go (isViews (v .state) n) refl)
-  where
-    go : (b : Bool) → isViews (v .state) n ≡ b → Moves v ext (cond b (closed v n) v) ext
-    go true y = closed-moves n (m .holding) (omega (arith, m .beside .set-up .columns)) y
-    go false y = moves-refl (m .holding)
+-- a step that changes no bit
+record StillMoves (w : World) (ext : ℕ → ℕ) (v : World) : Type 0 where
+  moves : Moves w ext v ext
+  still : BitsStill w v
 
-close-to : {w : World} {ext : ℕ → ℕ} (n : ℕ) → Holding w ext → n ≤ w .state .columns → Moves w ext (each n close w) ext
+close-one : {w v : World} {ext : ℕ → ℕ} (n : ℕ) → StillMoves w ext v → n < w .state .columns → StillMoves w ext (close v n)
+close-one {w} {v} {ext} n m h = go (isViews (v .state) n) refl
+  where
+    q : n < v .state .columns
+    q = omega (arith, m .moves .beside .set-up .columns)
+
+    go : (b : Bool) → isViews (v .state) n ≡ b → StillMoves w ext (cond b (closed v n) v)
+    go true y =
+        record {
+          moves = moves-trans (m .moves) (closed-moves n (m .moves .holding) q y);
+          still = still-trans (m .moves .beside) (m .still) (closed-still n (m .moves .holding) q y);
+        }
+    go false y = m
+
+close-to : {w : World} {ext : ℕ → ℕ} (n : ℕ) → Holding w ext → n ≤ w .state .columns → StillMoves w ext (each n close w)
 unfolding each
-close-to zero a h = moves-refl a
+close-to {w} zero a h = record { moves = moves-refl a; still = still-refl w }
 close-to (suc n) a h = close-one n (close-to n a (omega arith)) h
 
-pub all-closed-moves : {w : World} {ext : ℕ → ℕ} → Holding w ext → Moves w ext (allClosed w) ext
+all-closed-moves : {w : World} {ext : ℕ → ℕ} → Holding w ext → StillMoves w ext (allClosed w)
 unfolding allClosed
 all-closed-moves {w} a = close-to (w .state .columns) a (omega arith)
 
@@ -59,7 +73,7 @@ moves-rows {w} {v} a m =
     ∙ sym (rows-are w)
 
 pub moves-along : {w v : World} {ext ext′ : ℕ → ℕ} → Moves w ext v ext′ → LaterInPush w v
-moves-along m = record { set-up = m .beside .set-up; goes = m .goes; bytes = m .bytes; stands = m .stands }
+moves-along m = record { set-up = m .beside .set-up; goes = m .goes; bytes = m .bytes; stands = m .stands; pool = m .pool }
 
 -- ---- finishing
 
@@ -80,25 +94,26 @@ queued-after {w} {u} rows pushed a s l some most b r =
       rows = sym r ∙ sym (append-nil (slotRows u (u .state .place) rows)) ∙ sym (append-nil (slotRows u (u .state .place) rows ++ [])) ∙ ap (λ (x : List Row). (slotRows u (u .state .place) rows ++ []) ++ x) (sym (queue-rows rows a s l some most));
     }
 
-pub queued-between : {u : World} (rows : ℕ) → Holding u (λ c. rows) → Shut u → u .state .queued < u .state .queue → 1 ≤ rows → rows ≤ u .state .rows .0 → Between (queueing u rows)
-queued-between {u} rows a s l some most =
+pub queued-between : {u : World} (rows : ℕ) → Holding u (λ c. rows) → Shut u → u .state .queued < u .state .queue → 1 ≤ rows → rows ≤ u .state .rows .0 → Spared u (λ c. rows) → Between (queueing u rows)
+queued-between {u} rows a s l some most t =
     record {
       holding = holding-ext (λ c. queueing u rows .state .buffered .0) (λ c q. queue-none rows a s l some most) (queue-holding rows a s l some most);
       below = omega (arith, queue-none rows a s l some most, ap (λ t. t .0) (e .target), bounds-say (u .state) (a .run .fit .bounds) .target-some);
       begun = λ z c q. queue-begun rows a s l some most c (omega (arith, e .columns));
+      spared = spared-ext (λ c. queueing u rows .state .buffered .0) (λ c q. queue-none rows a s l some most) (queue-spared rows a s l some most t);
     }
   where
     e : SameSetUp (u .state) (queueing u rows .state)
     e = queue-along rows a s l some most .set-up
 
-pub finished-after : (w : World) → Holding w (λ c. w .state .buffered .0) → w .state .buffered .0 ≤ w .state .target .0 → (w .state .buffered .0 ≡ 0 → Between w) → Holds (QueuesBuffered w) (Among (9 ∷ [])) (finished w)
+pub finished-after : (w : World) → Holding w (λ c. w .state .buffered .0) → w .state .buffered .0 ≤ w .state .target .0 → (w .state .buffered .0 ≡ 0 → Between w) → Spared w (λ c. w .state .buffered .0) → Holds (QueuesBuffered w) (Among (9 ∷ [])) (finished w)
 unfolding finished
-finished-after w a h z =
+finished-after w a h z t =
     holds-cond (eqb (w .state .buffered .0) 0)
     (λ e. let n : w .state .buffered .0 ≡ 0 = eqb-true (w .state .buffered .0) 0 e in held
     (record {
       between = z n;
-      along = record { set-up = same-refl (w .state); goes = goes-refl (a .run); bytes = λ x. x; stands = λ k l f. stands-refl w k f };
+      along = record { set-up = same-refl (w .state); goes = goes-refl (a .run); bytes = λ x. x; stands = λ k l f. stands-refl w k f; pool = pool-refl w };
       after = after-same refl refl;
       none = n;
     }))
@@ -113,7 +128,7 @@ finished-after w a h z =
     u = allClosed w
 
     m : Moves w (λ c. rows) u (λ c. rows)
-    m = all-closed-moves a
+    m = all-closed-moves a .moves
 
     s : Shut u
     s = all-closed-shut w (a .run)
@@ -126,7 +141,7 @@ finished-after w a h z =
         let some : 1 ≤ rows = omega arith in
         let l′ : u .state .queued < u .state .queue = omega (arith, m .beside .queued, m .beside .set-up .queue) in
         record {
-          between = queued-between rows (m .holding) s l′ some most;
+          between = queued-between rows (m .holding) s l′ some most (spared-still a (m .beside) (all-closed-moves a .still) (m .rows) t);
           along = along-trans (moves-along m) (queue-along rows (m .holding) s l′ some most);
           after = queued-after rows [] (m .holding) s l′ some most (moves-batches a m) (buffered-are ∙ sym (append-nil (bufferedRows w)));
           none = queue-none rows (m .holding) s l′ some most;

@@ -12,9 +12,10 @@ use Rattle.rules.specs.Ranges.{inBounds}
 use Rattle.rules.specs.Steps.{withLimit, inState}
 use Rattle.rules.specs.Views.{openNumber}
 use Rattle.push_safety.specs.Run.{Run}
-use Rattle.invariant.specs.Holding.{reach, numberAt, listings, Queued, rowsAt, Holding, Between}
+use Rattle.invariant.specs.Holding.{reach, numberAt, listings, Queued, rowsAt, Spared, Holding, Between}
 use Rattle.invariant.specs.CountLaws.{times-same, listings-same}
-use Rattle.invariant.specs.AloneLaws.{alone-columns}
+use Rattle.invariant.specs.AloneLaws.{columns-open, alone-columns}
+use Rattle.invariant.specs.PoolLaws.{unheld-on}
 use Rattle.invariant.specs.RowLaws.{rows-read, batches-read}
 use Rattle.invariant.specs.Calls.MemoryAfter.{SameRows}
 
@@ -125,6 +126,7 @@ module _ (w : World) (l : Limit) where
         sizes = a .sizes;
         sixteen = a .sixteen;
         alone = alone-columns (w .state) (v .state) refl (λ c. refl) (a .alone);
+        unheld = unheld-on a (v .state) (w .books) (columns-open (w .state) (v .state) refl (λ c. refl)) (λ k l h z. z);
         uncounted = λ slot p n. a .uncounted slot p (λ z. n (queued-on slot z));
         unlisted = λ slot c p d n q. a .unlisted slot c p d (λ z. n (queued-on slot z)) q;
         some = λ slot z. a .some slot (queued slot z);
@@ -133,6 +135,10 @@ module _ (w : World) (l : Limit) where
         valid = λ slot c i p q y h.
             rw (cell-place (w .state) l slot c i, reaches slot c, fun-ext (buffers slot c)) (a .valid slot c i p q y h);
       }
+
+  spared : {ext : ℕ → ℕ} → Spared w ext → Spared v ext
+  unfolding rowsAt rowsIn
+  spared s = record { spare = λ slot c i p q h. rw (bitmap-place (w .state) l slot c) (s .spare slot c i p q h) }
 
   rows-same : (slot : ℕ) → rowsIn v slot ≡ rowsIn w slot
   unfolding rowsIn
@@ -146,7 +152,7 @@ module _ (w : World) (l : Limit) where
   unfolding bufferedRows
   limit-same g =
       record {
-        between = record { holding = holding (g .holding); below = g .below; begun = λ z c q. reaches (w .state .place) c ∙ g .begun z c q };
+        between = record { holding = holding (g .holding); below = g .below; spared = spared (g .spared); begun = λ z c q. reaches (w .state .place) c ∙ g .begun z c q };
         batches = batches-read w v refl (λ k h. rw (turn-same k, rows-same (queuedSlot (w .state) k)) (read (queuedSlot (w .state) k) (rowsIn w (queuedSlot (w .state) k))));
         rows = read (w .state .place) (w .state .buffered .0);
         bytes = λ z. z;

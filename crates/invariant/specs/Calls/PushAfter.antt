@@ -24,7 +24,8 @@ use Rattle.rules.specs.Stays.{SameSetUp, same-refl, same-trans}
 use Rattle.push_safety.specs.Run.{Run}
 use Rattle.push_safety.specs.TestedLaws.{bounds-say}
 use Rattle.push_safety.specs.ReadLaws.{fault-readable}
-use Rattle.invariant.specs.Holding.{Between}
+use Rattle.invariant.specs.Holding.{Between, PoolStays}
+use Rattle.invariant.specs.PoolLaws.{pool-refl, pool-trans}
 use Rattle.invariant.specs.Steps.Moves.{ReadableBatch}
 use Rattle.invariant.specs.RowLaws.{batchPart, part-all, part-more}
 use Rattle.invariant.specs.Calls.After.{After, after-same, after-trans}
@@ -40,6 +41,7 @@ pub record RowsBehind (w : World) (pushed : List Row) (v : World) : Type 0 where
   pub between : Between v
   pub after : After w pushed v
   pub bytes : Bytes (w .slots) → Bytes (v .slots)
+  pub pool : PoolStays w v
 
 -- a part is rows pushed
 takes-after : {w v : World} {b : Batch} {from n : ℕ} → TakesPart w b from n v → After w (batchPart w b from n) v
@@ -62,7 +64,7 @@ module _ (w₀ : World) (b : Batch) where
     part : Holds (TakesPart w b from n) (Among steps) (partTaken w₀ w b from n)
     part =
         holds-among steps tt
-        (taken-takes w₀ w b from n (g .holding) x e (omega (arith, fits, bounds-say (w .state) (g .holding .run .fit .bounds) .target)) m)
+        (taken-takes w₀ w b from n (g .holding) x e (omega (arith, fits, bounds-say (w .state) (g .holding .run .fit .bounds) .target)) m (g .spared))
 
     full : (v : World) → TakesPart w b from n v → v .state .buffered .0 ≤ v .state .target .0
     full v t = omega (arith, t .buffered, fits, ap (λ r. r .0) (t .along .set-up .target))
@@ -72,10 +74,10 @@ module _ (w₀ : World) (b : Batch) where
 
     -- finished, and where it is full
     finish-part : (v : World) → TakesPart w b from n v → Holds (QueuesBuffered v) (Among (9 ∷ [])) (finished v)
-    finish-part v t = finished-after v (t .holding) (full v t) (not-none v t)
+    finish-part v t = finished-after v (t .holding) (full v t) (not-none v t) (t .spared)
 
     then-finished : (v u : World) → TakesPart w b from n v → QueuesBuffered v u → RowsBehind w (batchPart w b from n) u
-    then-finished v u t f = record { between = f .between; after = after-nil (after-trans (takes-after t) (f .after)); bytes = λ z. f .along .bytes (t .along .bytes z) }
+    then-finished v u t f = record { between = f .between; after = after-nil (after-trans (takes-after t) (f .after)); bytes = λ z. f .along .bytes (t .along .bytes z); pool = pool-trans (t .along .pool) (f .along .pool) }
 
     if-full : (v : World) → TakesPart w b from n v → Holds (RowsBehind w (batchPart w b from n)) (Among steps) (ifFull v)
     unfolding ifFull
@@ -84,9 +86,10 @@ module _ (w₀ : World) (b : Batch) where
         (λ z. holds-among steps tt (holds-more (finish-part v t) (λ u f. then-finished v u t f) (λ k l. l)))
         (λ z. held
         (record {
-          between = record { holding = t .holding; below = omega (arith, full v t, eqb-false (v .state .buffered .0) (v .state .target .0) z); begun = λ y. absurd (omega (arith, t .buffered, some)) };
+          between = record { holding = t .holding; below = omega (arith, full v t, eqb-false (v .state .buffered .0) (v .state .target .0) z); begun = λ y. absurd (omega (arith, t .buffered, some)); spared = t .spared };
           after = takes-after t;
           bytes = t .along .bytes;
+          pool = t .along .pool;
         }))
 
     last : Holds (RowsBehind w (batchPart w b from n)) (Among steps) (bind (partTaken w₀ w b from n) ifFull)
@@ -118,7 +121,7 @@ module _ (w₀ : World) (b : Batch) where
           rw (q, coalesced)
           (holds-bind _ (turn w from (space w) g x e (omega arith) some (omega (arith, g .below))) (λ v p.
           holds-more (rest v (p .pushes .between) (along-sourced x (g .holding .run) (p .along)) (same-trans e (p .along .set-up)) (omega arith) (omega arith))
-          (λ u k. record { between = k .between; after = rw (both v p) at (after-trans (p .pushes .after) (k .after)); bytes = λ z. k .bytes (p .pushes .bytes z) })
+          (λ u k. record { between = k .between; after = rw (both v p) at (after-trans (p .pushes .after) (k .after)); bytes = λ z. k .bytes (p .pushes .bytes z); pool = pool-trans (p .pushes .pool) (k .pool) })
           (λ j l. l)))
         where
           both : (v : World) → Turns w b from (space w) v → batchPart w b from (space w) ++ batchPart v b (from + space w) (b .rows - (from + space w)) ≡ batchPart w b from (b .rows - from)
@@ -146,7 +149,7 @@ stepped-after w b g x some =
     behind v f =
         holds-among steps tt
         (holds-more (whole-after v b (f .between) (f .none) (along-sourced x (g .holding .run) (f .along)) some)
-        (λ u k. record { between = k .between; after = rw same at (after-trans (f .after) (k .after)); bytes = λ z. k .bytes (f .along .bytes z) })
+        (λ u k. record { between = k .between; after = rw same at (after-trans (f .after) (k .after)); bytes = λ z. k .bytes (f .along .bytes z); pool = pool-trans (f .along .pool) (k .pool) })
         (λ j l. l))
       where
         same : [] ++ batchRows v b ≡ batchRows w b
@@ -157,11 +160,11 @@ stepped-after w b g x some =
     go true p true e z f =
         rw (p, e, stepped)
         (holds-among steps tt
-        (holds-more (whole-after w b g (eqb-true (w .state .buffered .0) 0 e) x some) (λ v k. record { between = k .between; after = k .after; bytes = k .bytes }) (λ j l. l)))
+        (holds-more (whole-after w b g (eqb-true (w .state .buffered .0) 0 e) x some) (λ v k. record { between = k .between; after = k .after; bytes = k .bytes; pool = k .pool }) (λ j l. l)))
     go true p false e false f = rw (p, e, f, stepped) cut
     go true p false e true f =
         rw (p, e, f, stepped)
-        (holds-bind (λ v. queuedWhole v b) (holds-among steps tt (finished-after w (g .holding) (omega (arith, g .below)) (λ z. g))) behind)
+        (holds-bind (λ v. queuedWhole v b) (holds-among steps tt (finished-after w (g .holding) (omega (arith, g .below)) (λ z. g) (g .spared))) behind)
 
 -- ---- a push
 
@@ -206,7 +209,7 @@ pushed-after w b g t bytes = go (push-case w b)
     go : PushCase w b → Holds (RowsBehind w (batchRows w b)) (Among refusals) (pushed w b)
     go (PushCase.notSetUp p e) = absurd (fits-not p)
     go (PushCase.outOfRange p q e) = absurd (range-not q)
-    go (PushCase.nothing p q n e) = rw e (held (record { between = g; after = rw (nothing-pushed w b n) (after-same refl refl); bytes = λ z. z }))
+    go (PushCase.nothing p q n e) = rw e (held (record { between = g; after = rw (nothing-pushed w b n) (after-same refl refl); bytes = λ z. z; pool = pool-refl w }))
     go (PushCase.faulty p q n f s e) = rw e (refused (among-more refusals tt (fault-number w b f s)))
     go (PushCase.steps p q n s e) =
         rw e

@@ -10,12 +10,14 @@ use lib.ListN.{length}
 use Rattle.words.specs.Word.{word32}
 use Rattle.blocks.specs.BlockLaws.{Power}
 use Rattle.views.specs.View.{viewOf, isValid}
+use Rattle.bits.specs.Bits.{bitsFrom}
 use Rattle.books.specs.Entry.{entryOf, isFree}
 use Rattle.sound.specs.Sound.{Sound}
 use Rattle.sound.specs.SoundLaws.{sound-recount}
+use Rattle.sound.specs.ListKept.{Relisted}
 use Rattle.tallies.specs.TallyLaws.{entry-withTally}
 use Rattle.state.specs.World.{World, columnOf}
-use Rattle.state.specs.Layout.{isViews, cellPlace, tally, listLength, rowsIn, nextSlot, queuedSlot}
+use Rattle.state.specs.Layout.{bitmapPlace, isViews, cellPlace, tally, listLength, rowsIn, nextSlot, queuedSlot}
 use Rattle.state.specs.SlotLaws.{queued-in, queued-place, queued-more, queued-last}
 use Rattle.state.specs.Rows.{Row, upTo, listedAt, bufferAt, slotRows, queuedBatches, bufferedRows}
 use Rattle.rules.specs.Steps.{counting, queueing}
@@ -25,12 +27,14 @@ use Rattle.rules.specs.SameLaws.{same-views, same-list-place}
 use Rattle.push_safety.specs.Run.{Goes}
 use Rattle.push_safety.specs.TestedLaws.{bounds-say}
 use Rattle.push_safety.specs.FinishGoes.{Shut, queueing-goes}
-use Rattle.invariant.specs.Holding.{reach, numberAt, listings, Alone, Queued, rowsAt, Holding, Stands}
+use Rattle.invariant.specs.Holding.{reach, numberAt, listings, HasOpen, Alone, Unheld, Queued, rowsAt, Spared, Holding, Stands, PoolStays}
 use Rattle.invariant.specs.BeginLaws.{begins-is}
 use Rattle.invariant.specs.Rests.{Lists, Shows, reach-plain, reach-shut, number-listed, rests-shows}
 use Rattle.invariant.specs.CountLaws.{times-same, listings-same, number-below, number-live}
-use Rattle.invariant.specs.AloneLaws.{alone-counts}
+use Rattle.invariant.specs.AloneLaws.{counts-open, alone-counts}
+use Rattle.invariant.specs.PoolLaws.{relisted-is, relisted-hold, books-stay, unheld-on}
 use Rattle.invariant.specs.Steps.MoveLaws.{sound-at, rows-filling, rows-other}
+use Rattle.invariant.specs.Steps.SpareMoves.{SpareCase, same-rows, spared-on}
 use Rattle.invariant.specs.Steps.TallyMoves.{tally-sound, tally-filled, counting-rows, counting-length, counting-rows-here}
 use Rattle.invariant.specs.RowLaws.{rows-read, upTo-ext}
 use Rattle.invariant.specs.Calls.TakeAfter.{LaterInPush}
@@ -170,6 +174,24 @@ module _ {w : World} (rows : ℕ) (a : Holding w (λ c. rows)) (s : Shut w) (roo
         begins = begins-is (tally-filled (w .books) (w .pool) (tally (w .state) place 0) rows k l);
       }
 
+  open-was : (c k : ℕ) → HasOpen (v .state) c k → HasOpen (w .state) c k
+  unfolding queueing counting
+  open-was = counts-open (w .state) (nextSlot (w .state) place) (w .state .queued + 1) 0
+
+  relisted : (k : ℕ) → k < w .state .numbers → Relisted (entryOf (w .books) k) (entryOf (v .books) k)
+  unfolding queueing counting
+  relisted k l = relisted-is (entry-withTally (w .books) (tally (w .state) place 0) rows k l)
+
+  unheld-here : Unheld (v .state) (v .books)
+  unheld-here = unheld-on a (v .state) (v .books) open-was (λ k l h z. relisted-hold (relisted k l) z)
+
+  pool-are : v .pool ≡ w .pool
+  unfolding queueing counting
+  pool-are = refl
+
+  pool-here : PoolStays w v
+  pool-here = books-stay w v (same .numbers) pool-are (λ k l h. stands k l h .live) (λ k l h. relisted k l) (λ c k h o. open-was c k o)
+
   sound : Sound (v .books) (w .state .numbers) (w .state .pool .0) (listings w)
   unfolding queueing counting
   sound = tally-sound (tally (w .state) place 0) rows (a .sound) small
@@ -216,6 +238,7 @@ module _ {w : World} (rows : ℕ) (a : Holding w (λ c. rows)) (s : Shut w) (roo
         sizes = λ c q y. sizes c (omega (arith, same .columns)) (sym (same-views same c) ∙ y);
         sixteen = sixteen-here;
         alone = alone-here;
+        unheld = unheld-here;
         uncounted = λ slot p n. rows-there slot (λ e. n (rw e queued-place-now)) ∙ a .uncounted slot (omega (arith, same .queue)) (λ z. n (queued-on slot z));
         unlisted = λ slot c p d n q.
             let q′ : c < w .state .columns = omega (arith, same .columns) in
@@ -234,6 +257,21 @@ module _ {w : World} (rows : ℕ) (a : Holding w (λ c. rows)) (s : Shut w) (roo
       valid slot c i p q y h (yes e) = absurd (omega (arith, rows-filling v (λ d. 0) slot c e))
       valid slot c i p q y h (no n) =
           shows slot c i (omega (arith, same .queue)) (omega (arith, same .columns)) (omega (arith, rows-other v (λ d. 0) slot c n)) .valid y
+
+  -- the rows of each slot are those of before, and of the slot begun none
+  pub queue-spared : Spared w (λ c. rows) → Spared v (λ c. 0)
+  queue-spared t = spared-on (λ c. 0) a same t (λ slot c p q. case slot c (ℕ-discrete slot (v .state .place)) (ℕ-discrete slot place))
+    where
+      case : (slot c : ℕ) → Dec (slot ≡ v .state .place) → Dec (slot ≡ place) → SpareCase w v (λ c. rows) (λ c. 0) slot c
+      case slot c (yes e) d = SpareCase.no-rows (rows-filling v (λ c. 0) slot c e)
+      case slot c (no n) (yes e) =
+          same-rows
+          (rows-other v (λ c. 0) slot c n ∙ ap (rowsIn v) e ∙ rows-here ∙ sym (rows-filling w (λ c. rows) slot c e))
+          (λ i l. ap (λ (x : List ℕ). bitsFrom x (bitmapPlace (w .state) slot c) 0 i) slots-are)
+      case slot c (no n) (no d) =
+          same-rows
+          (rows-other v (λ c. 0) slot c n ∙ rows-there slot d ∙ sym (rows-other w (λ c. rows) slot c d))
+          (λ i l. ap (λ (x : List ℕ). bitsFrom x (bitmapPlace (w .state) slot c) 0 i) slots-are)
 
   -- nothing is listed for the slot begun
   pub queue-begun : (c : ℕ) → c < w .state .columns → reach v (v .state .place) c ≡ 0
@@ -273,4 +311,4 @@ module _ {w : World} (rows : ℕ) (a : Holding w (λ c. rows)) (s : Shut w) (roo
   queue-rows = ap (λ (n : ℕ). slotRows v (v .state .place) n) queue-none
 
   pub queue-along : LaterInPush w v
-  queue-along = record { set-up = same; goes = goes; bytes = λ z. rw slots-are z; stands = stands }
+  queue-along = record { set-up = same; goes = goes; bytes = λ z. rw slots-are z; stands = stands; pool = pool-here }

@@ -170,6 +170,10 @@ module _ (a : Wanted) (slots pool books : List ℕ) (ok : fitsSetUp (record { st
         room = λ c k q y o. absurd (not-open k (sym (column c q .1) ∙ o));
       }
 
+  no-row : (slot c i : ℕ) → i < rowsAt w (λ d. newState a .buffered .0) slot c → Dec (slot ≡ newState a .place) → ⊥
+  no-row slot c i h (yes e) = omega (arith, rows-filling w (λ d. newState a .buffered .0) slot c e, none-buffered)
+  no-row slot c i h (no d) = omega (arith, rows-other w (λ d. newState a .buffered .0) slot c d, rows slot)
+
   holding : Holding w (λ c. newState a .buffered .0)
   holding =
       record {
@@ -179,6 +183,7 @@ module _ (a : Wanted) (slots pool books : List ℕ) (ok : fitsSetUp (record { st
         sizes = λ c q y. sizes c q;
         sixteen = new-sixteen a;
         alone = record { alone = λ c d k p r. absurd (not-open (record { 0 = k }) (sym (column c (p .column) .1) ∙ p .block)) };
+        unheld = record { unheld = λ c k p. absurd (not-open (record { 0 = k }) (sym (column c (p .column) .1) ∙ p .block)) };
         uncounted = λ slot p n. rows slot;
         unlisted = λ slot c p d n q. lengths slot c;
         some = λ slot z. absurd (omega (arith, z .below, none-queued));
@@ -186,16 +191,13 @@ module _ (a : Wanted) (slots pool books : List ℕ) (ok : fitsSetUp (record { st
         within = λ c q. omega (arith, none-buffered);
         valid = λ slot c i p q y h. absurd (no-row slot c i h (ℕ-discrete slot (newState a .place)));
       }
-    where
-      no-row : (slot c i : ℕ) → i < rowsAt w (λ d. newState a .buffered .0) slot c → Dec (slot ≡ newState a .place) → ⊥
-      no-row slot c i h (yes e) = omega (arith, rows-filling w (λ d. newState a .buffered .0) slot c e, none-buffered)
-      no-row slot c i h (no d) = omega (arith, rows-other w (λ d. newState a .buffered .0) slot c d, rows slot)
 
   begun : Between w
   begun =
       record {
         holding = holding;
         below = omega (arith, none-buffered, bounds .target-some);
+        spared = record { spare = λ slot c i p q h. absurd (no-row slot c 0 (h .some) (ℕ-discrete slot (newState a .place))) };
         begun = λ z c q. reaches (newState a .place) c q;
       }
 

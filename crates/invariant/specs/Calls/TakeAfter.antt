@@ -18,13 +18,14 @@ use Rattle.rules.specs.Stays.{SameSetUp, same-trans}
 use Rattle.push_safety.specs.Run.{Run, Goes}
 use Rattle.push_safety.specs.Firm.{goes-trans}
 use Rattle.push_safety.specs.StepGoes.{buffering-goes}
-use Rattle.invariant.specs.Holding.{Holding, Stands}
+use Rattle.invariant.specs.Holding.{Spared, Holding, Stands, PoolStays}
+use Rattle.invariant.specs.PoolLaws.{pool-trans}
 use Rattle.invariant.specs.Steps.Moves.{Moves, ReadableBatch}
 use Rattle.invariant.specs.Steps.MoveLaws.{rows-filling, stands-trans, sourced-along, batch-along}
 use Rattle.invariant.specs.Steps.PartCompact.{holding-ext}
 use Rattle.invariant.specs.Steps.PartMoves.{upToColumn, column-before, Parted, part-moves}
 use Rattle.invariant.specs.RowLaws.{batchPart, part-same, rows-read, rows-more}
-use Rattle.invariant.specs.Calls.After.{rows-are, moves-batches, queued-read, buffering-rows, buffering-alike, buffering-holding, buffering-cell}
+use Rattle.invariant.specs.Calls.After.{rows-are, moves-batches, queued-read, buffering-rows, buffering-alike, buffering-pool, buffering-spared, buffering-holding, buffering-cell}
 
 -- from one world of a push to a later one, whatever is queued or buffered: the batch reads the same
 pub record LaterInPush (w v : World) : Type 0 where
@@ -32,6 +33,7 @@ pub record LaterInPush (w v : World) : Type 0 where
   pub goes : Goes w v
   pub bytes : Bytes (w .slots) → Bytes (v .slots)
   pub stands : (k : ℕ) → k < w .state .numbers → isFree (entryOf (w .books) k) ≡ false → Stands w v k
+  pub pool : PoolStays w v
 
 pub along-trans : {w v u : World} → LaterInPush w v → LaterInPush v u → LaterInPush w u
 along-trans {w} {v} a b =
@@ -40,6 +42,7 @@ along-trans {w} {v} a b =
       goes = goes-trans (a .goes) (b .goes);
       bytes = λ z. b .bytes (a .bytes z);
       stands = λ k l h. let s = a .stands k l h in stands-trans s (b .stands k (omega (arith, a .set-up .numbers)) (s .live));
+      pool = pool-trans (a .pool) (b .pool);
     }
 
 module _ {w v : World} {b : Batch} (x : ReadableBatch w b) (r : Run w) (a : LaterInPush w v) where
@@ -58,6 +61,7 @@ pub record TakesPart (w : World) (b : Batch) (from n : ℕ) (v : World) : Type 0
   pub buffered : v .state .buffered .0 ≡ w .state .buffered .0 + n
   pub batches : queuedBatches v ≡ queuedBatches w
   pub rows : bufferedRows v ≡ bufferedRows w ++ batchPart w b from n
+  pub spared : Spared v (λ c. v .state .buffered .0)
 
 module _ (w₀ w : World) (b : Batch) (from n : ℕ) (a : Holding w (λ c. w .state .buffered .0)) where
   taken : (u : World) → Parted w₀ w b from n (w .state .columns) u → TakesPart w b from n (buffering u (u .state .buffered .0 + n))
@@ -70,6 +74,7 @@ module _ (w₀ w : World) (b : Batch) (from n : ℕ) (a : Holding w (λ c. w .st
               goes = goes-trans (m .goes) (buffering-goes more (m .holding .run));
               bytes = m .bytes;
               stands = λ k l h. let s = m .stands k l h in record { live = s .live; begins = s .begins };
+              pool = pool-trans (m .pool) (buffering-pool u more);
             };
         buffered = ap (λ (x : ℕ). x + n) same;
         batches =
@@ -78,6 +83,7 @@ module _ (w₀ w : World) (b : Batch) (from n : ℕ) (a : Holding w (λ c. w .st
             (buffering-cell u more (m .holding))
             ∙ moves-batches a m;
         rows = buffered-rows;
+        spared = buffering-spared u more (m .holding) (p .spared) (λ c. more) (λ c q. ap (λ (x : ℕ). x + n) same ∙ sym (column-before rows n (w .state .columns) c (omega (arith, m .beside .set-up .columns))));
       }
     where
       rows : ℕ
@@ -114,6 +120,6 @@ module _ (w₀ w : World) (b : Batch) (from n : ℕ) (a : Holding w (λ c. w .st
           ∙ rows-more w (buffering u more) b (filling w) rows from n columns (λ c j q l. cell c (rows + j) q (omega arith) ∙ p .new c j q l)
           ∙ ap (λ (l : List Row). l ++ batchPart w b from n) (rows-read w (buffering u more) (filling w) rows columns (λ c i q l. cell c i q (omega arith) ∙ old c i q l) ∙ sym (rows-are w))
 
-  pub taken-takes : ReadableBatch w b → SameSetUp (w₀ .state) (w .state) → w .state .buffered .0 + n ≤ w .state .rows .0 → from + n ≤ b .rows → Holds (TakesPart w b from n) (Among (10 ∷ 11 ∷ 12 ∷ [])) (partTaken w₀ w b from n)
+  pub taken-takes : ReadableBatch w b → SameSetUp (w₀ .state) (w .state) → w .state .buffered .0 + n ≤ w .state .rows .0 → from + n ≤ b .rows → Spared w (λ c. w .state .buffered .0) → Holds (TakesPart w b from n) (Among (10 ∷ 11 ∷ 12 ∷ [])) (partTaken w₀ w b from n)
   unfolding partTaken
-  taken-takes x e h m = holds-bind (λ v. ok (buffering v (v .state .buffered .0 + n))) (part-moves w₀ w b from n a x e h m) (λ u p. held (taken u p))
+  taken-takes x e h m z = holds-bind (λ v. ok (buffering v (v .state .buffered .0 + n))) (part-moves w₀ w b from n a x e h m z) (λ u p. held (taken u p))

@@ -1,22 +1,24 @@
 -- Between two calls of a history 1 and 14 are never met.
 use Prim.Native.Nat.{ℕ, _+_, _*_, _≤_, _<_}
 use mathlib.Core.Path.{_≡_, refl}
-use mathlib.Core.Bool.{Bool, true, false, _&&_, cond}
+use mathlib.Core.Bool.{Bool, true, false, _&&_, not, cond}
 use native.Mathlib.Omega.{arith}
-use lib.Dec.{ltb, leb}
-use borrow.Author.Tests.{lt-ltb, le-leb, eq-eqb}
+use native.Mathlib.Decide.{ℕ-discrete}
+use lib.Dec.{ltb, leb, eqb}
+use borrow.Author.Tests.{lt-ltb, le-leb, eq-eqb, ne-eqb}
 use Rattle.search.specs.Cases.{both}
 use Rattle.search.specs.Every.{every, every-is}
 use Rattle.words.specs.Word.{word32}
 use Rattle.blocks.specs.BlockLaws.{power-range}
-use Rattle.books.specs.Entry.{usedOf, entryOf}
+use Rattle.books.specs.Entry.{usedOf, entryOf, isFree, isFreeAt}
 use Rattle.pool.specs.Read.{fitsIn, inRange}
 use Rattle.state.specs.declared.OpenBlock.{OpenBlock}
 use Rattle.state.specs.World.{World, columnOf}
 use Rattle.state.specs.Layout.{isViews, listPlace, listLength}
 use Rattle.state.specs.Rows.{listedAt}
-use Rattle.rules.specs.Ranges.{between, fitsSetUp, blockInRange, columnInRange, listInRange, slotInRange, stateInRange, tested}
-use Rattle.invariant.specs.Holding.{Holding, Between}
+use Rattle.rules.specs.Ranges.{between, fitsSetUp, isBlock, hasOpen, blockInRange, columnInRange, listInRange, slotInRange, stateInRange, tested}
+use Rattle.invariant.specs.Holding.{HasOpen, Holding, Between}
+use Rattle.invariant.specs.AloneLaws.{open-below, open-live}
 
 module _ {w : World} {ext : ℕ → ℕ} (a : Holding w ext) where
   fits : fitsSetUp w ≡ true
@@ -33,14 +35,36 @@ module _ {w : World} {ext : ℕ → ℕ} (a : Holding w ext) where
       both (le-leb _ _ (a .run .inside i h)) (both (le-leb _ _ (a .run .filled i h)) (le-leb _ _ (a .sound .held i (omega (arith, a .run .used)))))))
 
   columns : every (columnInRange w) (w .state .columns) ≡ true
-  unfolding columnInRange
+  unfolding columnInRange isFreeAt hasOpen
   columns = every-is (columnInRange w) (w .state .columns) (λ c q. by-views c q (isViews (w .state) c) refl)
     where
-      block : (c : ℕ) → c < w .state .columns → isViews (w .state) c ≡ true → (o : OpenBlock) → columnOf (w .state) c .block ≡ o → blockInRange (usedOf (w .books)) (listLength w (w .state .place) c) (w .state .lists) o ≡ true
-      block c q y (OpenBlock.Number k) e = both (lt-ltb _ _ (a .run .block c k q y e)) (lt-ltb _ _ (a .run .room c k q y e))
+      free : (k : ℕ) → k < usedOf (w .books) → isFree (entryOf (w .books) k) ≡ false → not (isFreeAt (w .books) k) ≡ true
+      free k l f = rw (lt-ltb k (usedOf (w .books)) l, f)
+
+      -- no column before has it: two that have are one
+      first : (c k : ℕ) → HasOpen (w .state) c k → (d : ℕ) → d < c → not (hasOpen (w .state) k d) ≡ true
+      first c k o d l = go (isViews (w .state) d) refl (columnOf (w .state) d .block) refl
+        where
+          go : (v : Bool) → isViews (w .state) d ≡ v → (b : OpenBlock) → columnOf (w .state) d .block ≡ b → not (v && isBlock k b) ≡ true
+          go false v b e = refl
+          go true v OpenBlock.Closed e = refl
+          go true v (OpenBlock.Number j) e = by-number (ℕ-discrete (j .0) k)
+            where
+              by-number : Dec (j .0 ≡ k) → not (eqb (j .0) k) ≡ true
+              by-number (no n) = rw (ne-eqb (j .0) k n)
+              by-number (yes y) =
+                  let p : HasOpen (w .state) d k = record { column = omega (arith, o .column); views = v; block = rw (← y) e } in
+                  absurd (omega (arith, a .alone .alone c d k o p))
+
+      block : (c : ℕ) → c < w .state .columns → isViews (w .state) c ≡ true → (o : OpenBlock) → columnOf (w .state) c .block ≡ o → blockInRange (w .state) (w .books) (listLength w (w .state .place) c) c o ≡ true
+      block c q y (OpenBlock.Number k) e =
+          let o : HasOpen (w .state) c (k .0) = record { column = q; views = y; block = e } in
+          both (lt-ltb _ _ (open-below a c (k .0) o))
+          (both (free (k .0) (a .run .block c k q y e) (open-live a c (k .0) o))
+          (both (lt-ltb _ _ (a .run .room c k q y e)) (every-is (λ d. not (hasOpen (w .state) (k .0) d)) c (first c (k .0) o))))
       block c q y OpenBlock.Closed e = refl
 
-      by-views : (c : ℕ) → c < w .state .columns → (b : Bool) → isViews (w .state) c ≡ b → cond (isViews (w .state) c) (between 4096 (columnOf (w .state) c .source .current .0) 1048576 && blockInRange (usedOf (w .books)) (listLength w (w .state .place) c) (w .state .lists) (columnOf (w .state) c .block)) true ≡ true
+      by-views : (c : ℕ) → c < w .state .columns → (b : Bool) → isViews (w .state) c ≡ b → cond (isViews (w .state) c) (between 4096 (columnOf (w .state) c .source .current .0) 1048576 && blockInRange (w .state) (w .books) (listLength w (w .state .place) c) c (columnOf (w .state) c .block)) true ≡ true
       by-views c q true y =
           let p = power-range (columnOf (w .state) c .source .current .0) (a .sizes c q y) in
           rw y (both (both (le-leb _ _ (p .0)) (le-leb _ _ (p .1))) (block c q y (columnOf (w .state) c .block) refl))

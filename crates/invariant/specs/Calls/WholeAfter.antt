@@ -24,11 +24,12 @@ use Rattle.rules.specs.Stays.{Beside}
 use Rattle.push_safety.specs.Firm.{run-firm}
 use Rattle.push_safety.specs.FinishGoes.{Shut}
 use Rattle.push_safety.specs.WholeGoes.{columns-whole-state}
-use Rattle.invariant.specs.Holding.{reach, Holding, Between}
-use Rattle.invariant.specs.Steps.Moves.{Moves, ReadableBatch}
+use Rattle.invariant.specs.Holding.{reach, Spared, Holding, Between, PoolStays}
+use Rattle.invariant.specs.PoolLaws.{pool-trans}
+use Rattle.invariant.specs.Steps.Moves.{Moves, ReadableBatch, Extends, Adds}
+use Rattle.invariant.specs.Steps.SpareMoves.{spared-ext, adds-after}
 use Rattle.invariant.specs.Steps.MoveLaws.{moves-refl, moves-trans, sourced-on, batch-on, rows-filling}
 use Rattle.invariant.specs.Steps.CopyMoves.{bits-moves, bits-laid}
-use Rattle.invariant.specs.Steps.RaiseMoves.{extends-after}
 use Rattle.invariant.specs.Steps.PartCompact.{holding-ext, moves-ext}
 use Rattle.invariant.specs.Steps.PartMoves.{upToColumn, column-before, column-behind, next-column}
 use Rattle.invariant.specs.Steps.PlainMoves.{empty-list}
@@ -38,6 +39,11 @@ use Rattle.invariant.specs.Calls.After.{After, moves-batches, rows-are}
 use Rattle.invariant.specs.Calls.FinishAfter.{queued-after, queued-between}
 
 -- ---- one column
+
+-- the rows behind, with their bits
+record WholeAdds (w : World) (ext : ℕ → ℕ) (b : Batch) (c : ℕ) (v : World) : Type 0 where
+  adds : Adds w ext b c 0 (b .rows) v
+  others : (d : ℕ) → d < w .state .columns → d ≢ c → reach v (w .state .place) d ≡ reach w (w .state .place) d
 
 module _ {w : World} {ext : ℕ → ℕ} (b : Batch) (c : ℕ) (a : Holding w ext) (x : ReadableBatch w b) (q : c < w .state .columns) (none : ext c ≡ 0) (empty : reach w (w .state .place) c ≡ 0) (l : recordOf b c .count ≤ w .state .lists) where
   abbrev bits : World
@@ -54,9 +60,15 @@ module _ {w : World} {ext : ℕ → ℕ} (b : Batch) (c : ℕ) (a : Holding w ex
   unfolding columnWhole bitsCopied
   column-is = refl
 
-  column-wholes : WholeColumn w ext b c (columnWhole w b c)
-  column-wholes = rw column-is (record { extends = extends-after a x q (omega arith) bits-on (z .extends); others = λ d r n. others d r n })
+  column-wholes : WholeAdds w ext b c (columnWhole w b c)
+  column-wholes = rw column-is (record { adds = adds-whole (z .extends); others = λ d r n. others d r n })
     where
+      adds-whole : {u : World} → Extends bits ext b c 0 (b .rows) u → Adds w ext b c 0 (b .rows) u
+      adds-whole {u} e = adds-after a x q (omega (arith, none, x .reads .rows-fit)) (omega arith) (from-row (sym none) e)
+        where
+          from-row : {at at′ : ℕ} → at ≡ at′ → Extends (bitsCopied w b c (filling w) at 0 (b .rows)) ext b c 0 (b .rows) u → Extends (bitsCopied w b c (filling w) at′ 0 (b .rows)) ext b c 0 (b .rows) u
+          from-row t y = rw t at y
+
       at : bits .state .place ≡ w .state .place
       at = bits-on .beside .place
 
@@ -82,24 +94,27 @@ module _ (w : World) (b : Batch) where
     moves : Moves w (λ d. 0) v (upToColumn 0 (b .rows) c)
     new : (d j : ℕ) → d < c → j < b .rows → slotCell v (filling w) d j ≡ batchCell w b d j
     empty : (d : ℕ) → c ≤ d → d < w .state .columns → reach v (w .state .place) d ≡ 0
+    spared : Spared v (upToColumn 0 (b .rows) c)
 
-  module _ (a : Holding w (λ d. 0)) (x : ReadableBatch w b) (empty : (c : ℕ) → c < w .state .columns → reach w (w .state .place) c ≡ 0) (fits : (c : ℕ) → c < w .state .columns → recordOf b c .count ≤ w .state .lists) where
+  module _ (a : Holding w (λ d. 0)) (x : ReadableBatch w b) (empty : (c : ℕ) → c < w .state .columns → reach w (w .state .place) c ≡ 0) (fits : (c : ℕ) → c < w .state .columns → recordOf b c .count ≤ w .state .lists) (t : Spared w (λ d. 0)) where
     begin : WholeRows 0 w
     begin =
         record {
           moves = moves-ext (upToColumn 0 (b .rows) 0) (λ d. column-behind 0 (b .rows) 0 d (omega arith)) (moves-refl a);
           new = λ d j l k. absurd (omega arith);
           empty = λ d l q. empty d q;
+          spared = spared-ext (upToColumn 0 (b .rows) 0) (λ d q. column-behind 0 (b .rows) 0 d (omega arith)) t;
         }
 
     next : (v : World) (c : ℕ) → c < w .state .columns → WholeRows c v → WholeRows (suc c) (columnWhole v b c)
     next v c q p =
         record {
-          moves = moves-ext (upToColumn 0 (b .rows) (suc c)) (next-column 0 (b .rows) c) (moves-trans (p .moves) (z .extends .moves));
+          moves = moves-ext (upToColumn 0 (b .rows) (suc c)) (next-column 0 (b .rows) c) (moves-trans (p .moves) (z .adds .moves));
           new = λ d j l k. new d j l k (decLt d c);
           empty = λ d l r.
               ap (λ (k : ℕ). reach (columnWhole v b c) k d) (sym (s .place)) ∙ z .others d (omega (arith, s .set-up .columns)) (λ e. omega arith)
               ∙ ap (λ (k : ℕ). reach v k d) (s .place) ∙ p .empty d (omega arith) r;
+          spared = spared-ext (upToColumn 0 (b .rows) (suc c)) (λ d r. next-column 0 (b .rows) c d) (z .adds .spared (p .spared));
         }
       where
         ext : ℕ → ℕ
@@ -111,7 +126,7 @@ module _ (w : World) (b : Batch) where
         here : ext c ≡ 0
         here = column-behind 0 (b .rows) c c (omega arith)
 
-        z : WholeColumn v ext b c (columnWhole v b c)
+        z : WholeAdds v ext b c (columnWhole v b c)
         z =
             column-wholes b c (p .moves .holding) (sourced-on x (p .moves) (a .run)) (omega (arith, s .set-up .columns)) here
             (ap (λ (k : ℕ). reach v k c) (s .place) ∙ p .empty c (omega arith) q)
@@ -119,12 +134,12 @@ module _ (w : World) (b : Batch) where
 
         new : (d j : ℕ) → d < suc c → j < b .rows → Dec (d < c) → slotCell (columnWhole v b c) (filling w) d j ≡ batchCell w b d j
         new d j l k (yes t) =
-            z .extends .moves .cells (filling w) d j (omega (arith, a .run .fit .place, s .set-up .queue)) (omega (arith, s .set-up .columns))
+            z .adds .moves .cells (filling w) d j (omega (arith, a .run .fit .place, s .set-up .queue)) (omega (arith, s .set-up .columns))
             (omega (arith, rows-filling v ext (filling w) d (sym (s .place)), column-before 0 (b .rows) c d t))
             ∙ p .new d j t k
         new d j l k (no t) =
             let e : d ≡ c = omega arith in
-            let y : slotCell (columnWhole v b c) (v .state .place) c (ext c + j) ≡ batchCell v b c (0 + j) = z .extends .new j k in
+            let y : slotCell (columnWhole v b c) (v .state .place) c (ext c + j) ≡ batchCell v b c (0 + j) = z .adds .new j k in
             let f : ext c + j ≡ j = omega (arith, here) in
             let g : 0 + j ≡ j = omega arith in
             rw e
@@ -147,6 +162,7 @@ pub record Whole (w : World) (b : Batch) (v : World) : Type 0 where
   pub between : Between v
   pub after : After w (batchRows w b) v
   pub bytes : Bytes (w .slots) → Bytes (v .slots)
+  pub pool : PoolStays w v
 
 pub whole-after : (w : World) (b : Batch) → Between w → w .state .buffered .0 ≡ 0 → ReadableBatch w b → 1 ≤ b .rows → Holds (Whole w b) (Among (9 ∷ 10 ∷ [])) (queuedWhole w b)
 unfolding queuedWhole
@@ -163,9 +179,10 @@ whole-after w b g z x some =
     done : w .state .queued < w .state .queue → every (λ c. leb (listLength w (filling w) c + recordOf b c .count) (w .state .lists)) (w .state .columns) ≡ true → Whole w b (queueing (columnsWhole w b) (b .rows))
     done l h =
         record {
-          between = queued-between (b .rows) hold shut l′ some most;
+          between = queued-between (b .rows) hold shut l′ some most (spared-ext (λ c. b .rows) rows-each (p .spared));
           after = queued-after (b .rows) (batchRows w b) hold shut l′ some most (moves-batches a (p .moves)) rows;
           bytes = λ x. queue-along (b .rows) hold shut l′ some most .bytes (p .moves .bytes x);
+          pool = pool-trans (p .moves .pool) (queue-along (b .rows) hold shut l′ some most .pool);
         }
       where
         fits : (c : ℕ) → c < w .state .columns → listLength w (filling w) c + recordOf b c .count ≤ w .state .lists
@@ -175,13 +192,16 @@ whole-after w b g z x some =
         u = columnsWhole w b
 
         p : WholeRows w b (w .state .columns) u
-        p = columns-whole w b a x (g .begun z) (λ c q. omega (arith, fits c q))
+        p = columns-whole w b a x (g .begun z) (λ c q. omega (arith, fits c q)) (spared-ext (λ c. 0) (λ c q. sym z) (g .spared))
 
         s : Beside w u
         s = p .moves .beside
 
+        rows-each : (c : ℕ) → c < u .state .columns → b .rows ≡ upToColumn 0 (b .rows) (w .state .columns) c
+        rows-each c q = sym (column-before 0 (b .rows) (w .state .columns) c (omega (arith, s .set-up .columns)) ∙ omega arith)
+
         hold : Holding u (λ c. b .rows)
-        hold = holding-ext (λ c. b .rows) (λ c q. sym (column-before 0 (b .rows) (w .state .columns) c (omega (arith, s .set-up .columns)) ∙ omega arith)) (p .moves .holding)
+        hold = holding-ext (λ c. b .rows) rows-each (p .moves .holding)
 
         same : u .state ≡ w .state
         same = columns-whole-state w b (x .reads) fits (run-firm (a .run))

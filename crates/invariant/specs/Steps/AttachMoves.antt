@@ -21,7 +21,7 @@ use Rattle.sound.specs.Sound.{Sound}
 use Rattle.sound.specs.Live.{live-is}
 use Rattle.sound.specs.SoundLaws.{sound-recount}
 use Rattle.sound.specs.Lists.{occurrences, listed-all-sound, listed-all-keeps}
-use Rattle.sound.specs.ListKept.{listed-all-filled}
+use Rattle.sound.specs.ListKept.{Relisted, listed-all-filled, listed-all-entry}
 use Rattle.tallies.specs.Tally.{tallyOf, withTally}
 use Rattle.tallies.specs.TallyLaws.{tally-same, entry-withTally, framed-tally}
 use Rattle.state.specs.declared.BatchCoalescer.{BatchCoalescer}
@@ -44,12 +44,13 @@ use Rattle.push_safety.specs.Firm.{run-firm}
 use Rattle.push_safety.specs.StepGoes.{tally-room}
 use Rattle.push_safety.specs.SumLaws.{sum-more}
 use Rattle.push_safety.specs.AttachGoes.{listed-word, listed-length, listed-used, attached-goes}
-use Rattle.invariant.specs.Holding.{reach, numberAt, timesIn, listings, Holding, Stands}
+use Rattle.invariant.specs.Holding.{reach, numberAt, timesIn, listings, HasOpen, Holding, Stands, PoolStays}
 use Rattle.invariant.specs.BeginLaws.{begins-is}
 use Rattle.invariant.specs.ByteLaws.{bytes-read, bytes-lay}
 use Rattle.invariant.specs.Rests.{reach-shut, number-listed}
 use Rattle.invariant.specs.CountLaws.{sum-ext, listings-most}
 use Rattle.invariant.specs.Steps.Moves.{Moves, BitsStill}
+use Rattle.invariant.specs.PoolLaws.{books-stay, unheld-on, relisted-hold}
 use Rattle.invariant.specs.Steps.MoveLaws.{Remains, remains-moves, live-stands, rows-most}
 use Rattle.invariant.specs.SlotLaws.{agrees-bit, entry-views}
 use Rattle.invariant.specs.Steps.OneList.{Elsewhere, by-slot, by-column, OneList, elsewhere-reach, one-listings, one-lists}
@@ -165,7 +166,7 @@ module _ {w : World} {ext : ℕ → ℕ} (b : Batch) (c : ℕ) (a : Holding w ex
   still-here =
       record {
         bit = λ slot d i p r l.
-            agrees-bit (bitmapPlace (w .state) slot d) (bitmapBytes (w .state)) i (thing-agrees (bitmap slot d) (bitmap-inside p r) (λ j k. other-part (λ z. omega arith))) (omega (arith, bits-fit (w .state)));
+            agrees-bit (bitmapPlace (w .state) slot d) (bitmapBytes (w .state)) i (thing-agrees (bitmap slot d) (bitmap-inside p r) (λ j k. other-part (λ z. omega arith))) l;
       }
 
   cell-here : (slot d i : ℕ) → slot ≤ w .state .queue → d < w .state .columns → i < w .state .rows .0 → Agrees (w .slots) (cellPlace (w .state) slot d i) (v .slots) (cellPlace (w .state) slot d i) (widthOf (w .state) d)
@@ -237,6 +238,20 @@ module _ {w : World} {ext : ℕ → ℕ} (b : Batch) (c : ℕ) (a : Holding w ex
         begins = begins-is (tally-filled books₁ (w .pool) (tally (w .state) place (c + 1)) (len + count) k l ∙ listed-all-filled list (a .sound) (w .pool) count used k l);
       }
 
+  -- every entry is as it was but for its listings
+  relisted : (k : ℕ) → k < w .state .numbers → Relisted (entryOf (w .books) k) (entryOf (v .books) k)
+  unfolding listAttached counting
+  relisted k l =
+      rw (entry-withTally books₁ (tally (w .state) place (c + 1)) (len + count) k l, listed-all-entry list (a .sound) count used live few k l)
+      (record { is = refl })
+
+  open-was : (d k : ℕ) → HasOpen (v .state) d k → HasOpen (w .state) d k
+  open-was d k o = rw same-state at o
+
+  pool-here : PoolStays w v
+  unfolding listAttached counting
+  pool-here = books-stay w v refl refl (λ k l h. stands-here k l h .live) (λ k l h. relisted k l) (λ d k h o. o)
+
   -- the lists
   count-other : (slot k : ℕ) → k ≤ w .state .columns → (slot ≡ place → k ≢ c + 1) → tallyOf (v .books) (tally (w .state) slot k) ≡ tallyOf (w .books) (tally (w .state) slot k)
   count-other slot k l n =
@@ -305,7 +320,7 @@ module _ {w : World} {ext : ℕ → ℕ} (b : Batch) (c : ℕ) (a : Holding w ex
       record {
         rests = λ slot d i p r l.
             let m : i < w .state .rows .0 = omega (arith, rows-most w ext a slot d p r) in
-            record { bit = still-here .bit slot d i p r m; cell = cell-here slot d i p r m };
+            record { bit = still-here .bit slot d i p r (omega (arith, bits-fit (w .state))); cell = cell-here slot d i p r m };
         lists = one-lists one (record { more = omega (arith, reach-was, attached-reach); same = λ i l. number-was i (omega (arith, reach-was)) });
         stands = live-stands a stands-here;
         sound = sound-recount (listings v) sound-here (λ k l. omega (arith, one-listings one place-in q k, times-is k));
@@ -313,6 +328,7 @@ module _ {w : World} {ext : ℕ → ℕ} (b : Batch) (c : ℕ) (a : Holding w ex
         sizes = λ d r z. rw same-state (a .sizes d r z);
         sixteen = rw same-state (a .sixteen);
         alone = rw same-state (a .alone);
+        unheld = unheld-on a (v .state) (v .books) open-was (λ k l h z. relisted-hold (relisted k l) z);
         rows = λ slot p. rows-here slot;
         unlisted = λ slot d p z r. length-other slot d r (by-slot z);
       }
@@ -334,7 +350,7 @@ module _ {w : World} {ext : ℕ → ℕ} (b : Batch) (c : ℕ) (a : Holding w ex
               rw (z, f, ← t, new-entry (i - len) j, ← (listed-word b c (i - len) j)) (used (i - len) j)
 
   pub attached-moves : Bytes (b .body) → Moves w ext v ext
-  attached-moves bytes = remains-moves a (attached-goes w b c q x h (a .run) o) beside remains (λ z. rw slots-are (bytes-lay at list-bytes z)) stands-here
+  attached-moves bytes = remains-moves a (attached-goes w b c q x h (a .run) o) beside remains (λ z. rw slots-are (bytes-lay at list-bytes z)) stands-here pool-here
     where
       list-bytes : Bytes list
       list-bytes = list-of-bytes b c bytes

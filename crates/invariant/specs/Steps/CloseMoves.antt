@@ -17,7 +17,7 @@ use Rattle.state.specs.declared.Column.{Column}
 use Rattle.state.specs.declared.OpenBlock.{OpenBlock}
 use Rattle.state.specs.World.{World, columnOf}
 use Rattle.state.specs.Layout.{tally, widthOf, isViews, listPlace, cellPlace, listLength, rowsIn}
-use Rattle.state.specs.LayoutLaws.{list-in}
+use Rattle.state.specs.LayoutLaws.{bits-fit, list-in}
 use Rattle.state.specs.Where.{Where, listed, Inside, listed-inside, Other, other-slot, other-column, other-part, behind}
 use Rattle.state.specs.Rows.{listedAt}
 use Rattle.rules.specs.Steps.{withColumn, inState, inSlots, counting, listing}
@@ -29,12 +29,14 @@ use Rattle.push_safety.specs.TestedLaws.{bounds-say}
 use Rattle.push_safety.specs.StepGoes.{column-cases, column-new}
 use Rattle.push_safety.specs.BlockGoes.{open-room, open-number, closed-goes}
 use Rattle.tallies.specs.TallyLaws.{entry-withTally}
-use Rattle.invariant.specs.Holding.{reach, numberAt, listings, Holding, Stands}
+use Rattle.sound.specs.ListKept.{Relisted}
+use Rattle.invariant.specs.Holding.{reach, numberAt, listings, HasOpen, Holding, Stands, PoolStays}
 use Rattle.invariant.specs.BeginLaws.{begins-is}
 use Rattle.invariant.specs.Rests.{reach-open, reach-shut, number-listed, number-open}
 use Rattle.invariant.specs.CountLaws.{times-same}
-use Rattle.invariant.specs.AloneLaws.{column-length, not-open, alone-one}
+use Rattle.invariant.specs.AloneLaws.{column-length, not-open, other-open, alone-one}
 use Rattle.invariant.specs.Steps.Moves.{Moves, BitsStill}
+use Rattle.invariant.specs.PoolLaws.{relisted-is, books-stay, unheld-on, relisted-hold}
 use Rattle.invariant.specs.Steps.MoveLaws.{Remains, remains-moves, live-stands, moves-refl, still-refl, rows-most}
 use Rattle.invariant.specs.SlotLaws.{cell-agrees, bit-agrees, entry-agrees, entry-views}
 use Rattle.invariant.specs.Steps.OneList.{Elsewhere, by-slot, by-column, OneList, one-listings, one-lists}
@@ -180,6 +182,25 @@ module _ {w : World} {ext : ℕ → ℕ} (c : ℕ) (a : Holding w ext) (q : c < 
         begins = begins-is (tally-filled (w .books) (w .pool) (tally (w .state) place (c + 1)) (len + 1) k l);
       }
 
+  -- an open block was open, and every entry is as it was
+  open-was : (d k : ℕ) → HasOpen (shut .state) d k → HasOpen (w .state) d k
+  open-was d k o = go (ℕ-discrete d c)
+    where
+      go : Dec (d ≡ c) → HasOpen (w .state) d k
+      go (yes z) = absurd (not-open (record { 0 = k }) (sym shut-block ∙ (rw z at (o .block))))
+      go (no z) = other-open c (beside .set-up) other-block d k z o
+
+  relisted : (k : ℕ) → k < w .state .numbers → Relisted (entryOf (w .books) k) (entryOf (shut .books) k)
+  unfolding counting
+  relisted k l = relisted-is (entry-withTally (w .books) (tally (w .state) place (c + 1)) (len + 1) k l)
+
+  pool-are : shut .pool ≡ w .pool
+  unfolding counting
+  pool-are = refl
+
+  pool-here : PoolStays w shut
+  pool-here = books-stay w shut (beside .set-up .numbers) pool-are (λ k l h. stands-here k l h .live) (λ k l h. relisted k l) (λ d k h o. open-was d k o)
+
   sound-here : Sound (shut .books) (w .state .numbers) (w .state .pool .0) (listings w)
   unfolding counting
   sound-here = tally-sound (tally (w .state) place (c + 1)) (len + 1) (a .sound) few
@@ -201,7 +222,7 @@ module _ {w : World} {ext : ℕ → ℕ} (c : ℕ) (a : Holding w ext) (q : c < 
       record {
         rests = λ slot d i p r h.
             let l : i < w .state .rows .0 = omega (arith, rows-most w ext a slot d p r) in
-            record { bit = still-here .bit slot d i p r l; cell = cell-here slot d i p r l };
+            record { bit = still-here .bit slot d i p r (omega (arith, bits-fit (w .state))); cell = cell-here slot d i p r l };
         lists = one-lists one (record { more = omega (arith, reach-here); same = number-here });
         stands = live-stands a stands-here;
         sound = sound-recount (listings shut) sound-here (λ k l. omega (arith, one-listings one (a .run .fit .place) q k, times-same w shut place c k reach-here number-here));
@@ -209,6 +230,7 @@ module _ {w : World} {ext : ℕ → ℕ} (c : ℕ) (a : Holding w ext) (q : c < 
         sizes = λ d r v. rw (shut-source d) (a .sizes d r v);
         sixteen = column-length (w .state) c (columnOf (w .state) c .source) OpenBlock.Closed ∙ a .sixteen;
         alone = alone-one c (beside .set-up) other-block (λ d k n p g. not-open (record { 0 = k }) (sym shut-block ∙ p .block)) (a .alone);
+        unheld = unheld-on a (shut .state) (shut .books) open-was (λ k l h z. relisted-hold (relisted k l) z);
         rows = λ slot p. shut-rows slot;
         unlisted = λ slot d p z r. length-other slot d r (by-slot z);
       }
@@ -229,7 +251,7 @@ module _ {w : World} {ext : ℕ → ℕ} (c : ℕ) (a : Holding w ext) (q : c < 
               rw (z, f, e, new-entry) (open-number c (a .run) q y o)
 
   shut-moves : Moves w ext shut ext
-  shut-moves = remains-moves a (rw shut-is at (closed-goes w c (a .run) q y)) beside remains bytes-here stands-here
+  shut-moves = remains-moves a (rw shut-is at (closed-goes w c (a .run) q y)) beside remains bytes-here stands-here pool-here
 
 -- closing, whether a block is open or not
 module _ {w : World} {ext : ℕ → ℕ} (c : ℕ) (a : Holding w ext) (q : c < w .state .columns) (y : isViews (w .state) c ≡ true) where

@@ -26,14 +26,15 @@ use Rattle.views.specs.declared.View.{View}
 use Rattle.views.specs.View.{isInline, isValid, longLength, repointed}
 use Rattle.views.specs.StoreLaws.{ViewWords, view-fits}
 use Rattle.views.specs.ShowLaws.{keeps-repointed, repoint-inline, repoint-long, long-says, long-some, long-none}
-use Rattle.state.specs.World.{World}
+use Rattle.state.specs.declared.OpenBlock.{OpenBlock}
+use Rattle.state.specs.World.{World, columnOf}
 use Rattle.state.specs.Layout.{isViews, listLength}
 use Rattle.state.specs.Rows.{bufferAt}
 use Rattle.rules.specs.Batch.{Batch, recordOf, listedNumber, bytesListed, listedBytes, rowView}
 use Rattle.rules.specs.Copies.{longTo, bytesCarried, startsFit}
 use Rattle.rules.specs.CopyLaws.{length-bytesCarried}
 use Rattle.rules.specs.Steps.{ok, inSlots}
-use Rattle.rules.specs.Views.{isOpen, openNumber, openFilled, openRest, sourcePlace, viewsFrom, longBefore, viewsCompacted}
+use Rattle.rules.specs.Views.{hasBlock, blockNumber, isOpen, openNumber, openFilled, openRest, sourcePlace, viewsFrom, longBefore, viewsCompacted}
 use Rattle.rules.specs.Held.{Among, Holds, held}
 use Rattle.rules.specs.Stays.{beside-state}
 use Rattle.push_safety.specs.TestedLaws.{bounds-say}
@@ -41,9 +42,10 @@ use Rattle.push_safety.specs.BooksGo.{length-at, length-go}
 use Rattle.push_safety.specs.Firm.{run-firm, within-goes}
 use Rattle.push_safety.specs.BlockGoes.{open-used, open-room, open-number, open-capacity, open-inside}
 use Rattle.push_safety.specs.ReadLaws.{held-used}
-use Rattle.invariant.specs.Holding.{reach, Holding, Begins, Stands}
+use Rattle.invariant.specs.Holding.{reach, HasOpen, Unheld, Holding, Begins, Stands}
 use Rattle.invariant.specs.BeginLaws.{begins-is}
 use Rattle.invariant.specs.Rests.{buffer-number, reach-open, number-open}
+use Rattle.invariant.specs.PoolLaws.{grown-stays, unheld-on}
 use Rattle.invariant.specs.Steps.Moves.{Moves, BitsStill, ReadableBatch, Laid, Extends}
 use Rattle.invariant.specs.Steps.MoveLaws.{remains-moves, live-stands, moves-trans, still-trans, laid-on}
 use Rattle.invariant.specs.SlotLaws.{slots-reach, slots-length, slots-open}
@@ -200,14 +202,30 @@ module _ {w : World} {ext : ℕ → ℕ} (b : Batch) (c from n : ℕ) (a : Holdi
             begins = g;
           })
 
+  is-open : HasOpen (w .state) c k
+  unfolding openNumber
+  is-open = record { column = q; views = y; block = number-of (columnOf (w .state) c .block) o }
+    where
+      number-of : (z : OpenBlock) → hasBlock z ≡ true → z ≡ OpenBlock.Number (record { 0 = blockNumber z })
+      number-of (OpenBlock.Number n) e = refl
+      number-of OpenBlock.Closed e = absurd (true≢false (sym e))
+
+  unheld-here : Unheld (w .state) books′
+  unheld-here = unheld-on a (w .state) books′ (λ d j p. p) (λ j l h z. hold j z (ℕ-discrete j k))
+    where
+      hold : (j : ℕ) → entryOf (w .books) j .hold ≡ 0 → Dec (j ≡ k) → entryOf books′ j .hold ≡ 0
+      hold j z (yes d) = rw d (ap (λ (e : Entry). e .hold) (changed .same) ∙ (rw d at z))
+      hold j z (no d) = ap (λ (e : Entry). e .hold) (changed .other j d) ∙ z
+
   v-moves : Moves u ext v ext
   v-moves =
       remains-moves (u-moves .holding)
       (within-goes u v refl refl (length-bytesCarried f (sourcePlace w b c) (w .pool) to n) (length-go k (filled + total) (run-firm (a .run) .books) k-used capacity) (changed .framed) (u-moves .holding .run))
       (beside-state u v refl refl (length-bytesCarried f (sourcePlace w b c) (w .pool) to n) (changed .framed .len))
-      (memory-remains u pool′ books′ (changed .framed) (u-moves .holding) (length-sound k (u-moves .holding .sound) k-below (filled + total) capacity) (live-stands (u-moves .holding) stands-here))
+      (memory-remains u pool′ books′ (changed .framed) (u-moves .holding) (length-sound k (u-moves .holding .sound) k-below (filled + total) capacity) (live-stands (u-moves .holding) stands-here) unheld-here)
       (λ z. z)
       stands-here
+      (grown-stays (u-moves .holding) c k (filled + total) is-open pool′ books′ changed (omega (arith, filled-is)) capacity (framed-wider _ _ carried (omega (arith, filled-is)) (omega arith)))
 
   all-moves : Moves w ext v ext
   all-moves = moves-trans u-moves v-moves
@@ -334,16 +352,11 @@ module _ {w : World} {ext : ℕ → ℕ} (b : Batch) (c from n : ℕ) (a : Holdi
 
   compacted-extends : Laid w b c (ext c) from n → Extends w ext b c from n v
   compacted-extends t =
-      stored-extends b c from n all-moves q h (laid-on b c (ext c) from n (a .run) (all-moves .beside) all-still q h t) stored
+      stored-extends b c from n all-moves q h (laid-on b c (ext c) from n (a .run) (all-moves .beside) all-still q h t) stored all-still
 
 -- ---- the step
 
--- rows more, no bit changed, and the block still open with so much more filled
-pub record Compacts (w : World) (ext : ℕ → ℕ) (b : Batch) (c from n : ℕ) (v : World) : Type 0 where
-  pub extends : Extends w ext b c from n v
-  pub still : BitsStill w v
-
-pub views-compacted : {w : World} {ext : ℕ → ℕ} (b : Batch) (c from n : ℕ) → Holding w ext → ReadableBatch w b → c < w .state .columns → isViews (w .state) c ≡ true → isOpen w c ≡ true → ext c + n ≤ w .state .rows .0 → from + n ≤ b .rows → longBefore w b c from n ≤ openRest w c → Laid w b c (ext c) from n → Holds (Compacts w ext b c from n) (Among []) (viewsCompacted w b c (ext c) from n)
+pub views-compacted : {w : World} {ext : ℕ → ℕ} (b : Batch) (c from n : ℕ) → Holding w ext → ReadableBatch w b → c < w .state .columns → isViews (w .state) c ≡ true → isOpen w c ≡ true → ext c + n ≤ w .state .rows .0 → from + n ≤ b .rows → longBefore w b c from n ≤ openRest w c → Laid w b c (ext c) from n → Holds (Extends w ext b c from n) (Among []) (viewsCompacted w b c (ext c) from n)
 views-compacted b c from n a x q y o h m r t =
     rw (compacted-is b c from n a x q y o h m r)
-    (held (record { extends = compacted-extends b c from n a x q y o h m r t; still = all-still b c from n a x q y o h m r }))
+    (held (compacted-extends b c from n a x q y o h m r t))

@@ -1,10 +1,11 @@
 -- Bits and bytes of a part put behind the rows of a column: every row is as it was, and the new ones read as the batch's.
-use Prim.Native.Nat.{ℕ, _+_, _*_, _/_, _%_, _≤_, _<_}
+use Prim.Native.Nat.{ℕ, _+_, _-_, _*_, _/_, _%_, _≤_, _<_}
 use mathlib.Core.Path.{_≡_, refl, sym, _∙_, ap}
+use mathlib.Core.Logic.{_≢_}
 use mathlib.Core.Bool.{Bool, true, false, cond}
 use mathlib.Core.List.{List}
 use native.Mathlib.Omega.{arith}
-use native.Mathlib.Decide.{ℕ-discrete}
+use native.Mathlib.Decide.{decLt, ℕ-discrete}
 use lib.ListN.{length, getD}
 use Rattle.words.specs.WordLaws.{Bytes}
 use Rattle.words.specs.Run.{read, lay}
@@ -12,7 +13,7 @@ use Rattle.words.specs.RunLaws.{length-read, lay-put}
 use Rattle.words.specs.Frame.{Framed}
 use Rattle.words.specs.FrameLaws.{put-framed, put-agrees, getD-read}
 use Rattle.bits.specs.Bits.{bitAt, bitsFrom, appended}
-use Rattle.bits.specs.BitLaws.{length-appended, bit-kept, bit-appended, bytes-appended, bitsFrom-small}
+use Rattle.bits.specs.BitLaws.{length-appended, bit-kept, bit-past, bit-appended, bit-cleared, bytes-appended, bitsFrom-small}
 use Rattle.state.specs.World.{World}
 use Rattle.state.specs.Layout.{widthOf, bitmapBytes, bitmapPlace, cellPlace, listLength}
 use Rattle.state.specs.LayoutLaws.{bits-fit, bitmap-in}
@@ -57,7 +58,7 @@ module _ {w : World} {ext : ℕ → ℕ} (x : List ℕ) (c at n : ℕ) (a : Hold
       slots-moves x a cells-word (f .len) bytes (λ slot d i p r l.
       let m : i < w .state .rows .0 = omega (arith, rows-most w ext a slot d p r) in
       record {
-        bit = cells-still .bit slot d i p r m;
+        bit = cells-still .bit slot d i p r (omega (arith, bits-fit (w .state)));
         cell = cell-agrees (w .state) put f in-bounds slot d i p r m (row-other slot d i l (ℕ-discrete slot (w .state .place)) (ℕ-discrete d c));
       })
 
@@ -140,8 +141,8 @@ module _ {w : World} {ext : ℕ → ℕ} (b : Batch) (c at from n : ℕ) (a : Ho
 
   -- the bit of a row that there was
   old-bit : (slot d i : ℕ) → slot ≤ w .state .queue → d < w .state .columns → i < rowsAt w ext slot d → i < w .state .rows .0 → Dec (slot ≡ w .state .place) → Dec (d ≡ c) → bitsFrom laid (bitmapPlace (w .state) slot d) 0 i ≡ bitsFrom (w .slots) (bitmapPlace (w .state) slot d) 0 i
-  old-bit slot d i p r l m (no z) e = bit-agrees (w .state) put-bits framed bits-inside slot d i p r m (other-slot (λ y. z (sym y)))
-  old-bit slot d i p r l m (yes z) (no e) = bit-agrees (w .state) put-bits framed bits-inside slot d i p r m (other-column (λ y. e (sym y)))
+  old-bit slot d i p r l m (no z) e = bit-agrees (w .state) put-bits framed bits-inside slot d i p r (omega (arith, bits-fit (w .state))) (other-slot (λ y. z (sym y)))
+  old-bit slot d i p r l m (yes z) (no e) = bit-agrees (w .state) put-bits framed bits-inside slot d i p r (omega (arith, bits-fit (w .state))) (other-column (λ y. e (sym y)))
   old-bit slot d i p r l m (yes z) (yes e) =
       let k : i < at = omega (arith, rows-filling w ext slot d z, ap ext e) in
       let o : i < 8 * size = omega (arith, bits-fit (w .state)) in
@@ -171,3 +172,22 @@ module _ {w : World} {ext : ℕ → ℕ} (b : Batch) (c at from n : ℕ) (a : Ho
             let o : at + j < 8 * size = omega (arith, bits-fit (w .state)) in
             bit-laid (at + j) o ∙ bit-appended before at run (λ i. rowBit-small b c (from + i)) n j fits l;
       })
+
+  -- every other bit of the bitmaps is as it was, and where there is no row to copy all are
+  pub bits-others : (slot d i : ℕ) → slot ≤ w .state .queue → d < w .state .columns → i < 8 * size → (slot ≡ w .state .place → d ≢ c) → bitsFrom (bitsCopied w b c (filling w) at from n .slots) (bitmapPlace (w .state) slot d) 0 i ≡ bitsFrom (w .slots) (bitmapPlace (w .state) slot d) 0 i
+  bits-others slot d i p r l o = rw bits-are (bit-agrees (w .state) put-bits framed bits-inside slot d i p r l (other (ℕ-discrete slot (w .state .place))))
+    where
+      other : Dec (slot ≡ w .state .place) → Other put-bits (bitmap slot d)
+      other (yes z) = other-column (λ y. o z (sym y))
+      other (no z) = other-slot (λ y. z (sym y))
+
+  pub bits-none : n ≡ 0 → (i : ℕ) → i < 8 * size → bitsFrom (bitsCopied w b c (filling w) at from n .slots) place 0 i ≡ bitsFrom (w .slots) place 0 i
+  bits-none z i l = rw bits-are (bit-laid i l ∙ by-place (decLt i at) ∙ sym (bit-before i l))
+    where
+      by-place : Dec (i < at) → bitAt after i ≡ bitAt before i
+      by-place (yes k) = bit-kept before at run n i fits k
+      by-place (no k) = bit-past before at run n i (omega arith) (λ m. absurd (omega arith))
+
+  -- the spare bits behind the rows are zero
+  pub bits-spare : 0 < n → (i : ℕ) → i < 8 * size → at + n ≤ i → i / 8 ≡ (at + n - 1) / 8 → bitsFrom (bitsCopied w b c (filling w) at from n .slots) place 0 i ≡ 0
+  bits-spare z i l k e = rw bits-are (bit-laid i l ∙ bit-cleared before at run (λ i. rowBit-small b c (from + i)) n i fits z k e)

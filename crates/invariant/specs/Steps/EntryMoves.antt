@@ -12,7 +12,7 @@ use Rattle.state.specs.Rows.{listedAt}
 use Rattle.rules.specs.Views.{openNumber}
 use Rattle.rules.specs.Stays.{same-refl}
 use Rattle.push_safety.specs.Firm.{same-list-length}
-use Rattle.invariant.specs.Holding.{reach, numberAt, listings, Holding, Stands}
+use Rattle.invariant.specs.Holding.{reach, numberAt, listings, Unheld, Holding, Stands}
 use Rattle.invariant.specs.Rests.{Lists}
 use Rattle.invariant.specs.CountLaws.{times-same, listings-same}
 use Rattle.invariant.specs.Steps.Moves.{BitsStill}
@@ -53,9 +53,9 @@ module _ (w : World) (pool books : List ℕ) (f : Framed 0 (4 + 20 * w .state .n
   memory-still = record { bit = λ slot c i p q h. refl }
 
   module _ {ext : ℕ → ℕ} (a : Holding w ext) (s : Sound books (w .state .numbers) (w .state .pool .0) (listings w)) where
-    pub memory-remains : ((slot c j : ℕ) → slot ≤ w .state .queue → c < w .state .columns → j < reach w slot c → Stands w (inMemory w pool books) (numberAt w slot c j)) → Remains w ext (inMemory w pool books)
+    pub memory-remains : ((slot c j : ℕ) → slot ≤ w .state .queue → c < w .state .columns → j < reach w slot c → Stands w (inMemory w pool books) (numberAt w slot c j)) → Unheld (w .state) books → Remains w ext (inMemory w pool books)
     unfolding listedAt
-    memory-remains stands =
+    memory-remains stands unheld =
         record {
           rests = λ slot c i p q h. record { bit = refl; cell = record { byte = λ x y l m n. let t : x ≡ y = omega arith in rw t } };
           lists = λ slot c p q. memory-lists slot c;
@@ -65,6 +65,7 @@ module _ (w : World) (pool books : List ℕ) (f : Framed 0 (4 + 20 * w .state .n
           sizes = a .sizes;
           sixteen = a .sixteen;
           alone = a .alone;
+          unheld = unheld;
           rows = λ slot p. memory-rows slot;
           unlisted = λ slot c p d q. memory-length slot c;
         }

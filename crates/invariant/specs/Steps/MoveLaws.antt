@@ -19,18 +19,20 @@ use Rattle.views.specs.ShowLaws.{Keeps}
 use Rattle.state.specs.declared.BatchCoalescer.{BatchCoalescer}
 use Rattle.state.specs.World.{World, columnOf}
 use Rattle.state.specs.Layout.{widthOf, isViews, cellPlace, rowsIn, listLength, slotBefore, queuedSlot}
+use Rattle.state.specs.LayoutLaws.{bits-fit}
 use Rattle.state.specs.SlotLaws.{queued-in}
 use Rattle.state.specs.Rows.{listedAt, bufferAt}
 use Rattle.rules.specs.Batch.{Batch, recordOf, rowView, listedNumber, bytesListed, listedBytes, valuePlace, batchCell}
 use Rattle.rules.specs.Stays.{SameSetUp, Beside, beside-refl, beside-trans}
-use Rattle.rules.specs.SameLaws.{same-width, same-views, same-value-place, same-row-view, same-bitmap-place}
+use Rattle.rules.specs.SameLaws.{same-width, same-views, same-value-place, same-row-view, same-bitmap-bytes, same-bitmap-place}
 use Rattle.push_safety.specs.Run.{Run, Goes}
 use Rattle.push_safety.specs.BooksGo.{held-says}
 use Rattle.push_safety.specs.Firm.{goes-refl, goes-trans}
-use Rattle.invariant.specs.Holding.{reach, numberAt, listings, Alone, Queued, rowsAt, Holding, Begins, Stands}
+use Rattle.invariant.specs.Holding.{reach, numberAt, listings, Alone, Unheld, Queued, rowsAt, Holding, Begins, Stands, PoolStays}
 use Rattle.invariant.specs.BeginLaws.{begins-refl, begins-trans, keeps-begins}
 use Rattle.invariant.specs.Rests.{cell-is, Rests, Lists, Shows, rests-shows}
 use Rattle.invariant.specs.CountLaws.{number-below, number-live}
+use Rattle.invariant.specs.PoolLaws.{pool-refl, pool-trans}
 use Rattle.invariant.specs.Steps.Moves.{more, Moves, BitsStill, ReadableBatch, Laid}
 
 -- ---- live numbers
@@ -128,6 +130,7 @@ pub record Remains (w : World) (ext : ℕ → ℕ) (v : World) : Type 0 where
   pub sizes : (c : ℕ) → c < w .state .columns → isViews (w .state) c ≡ true → Power (columnOf (v .state) c .source .current .0)
   pub sixteen : length (v .state .column) ≡ 16
   pub alone : Alone (v .state)
+  pub unheld : Unheld (v .state) (v .books)
   pub rows : (slot : ℕ) → slot ≤ w .state .queue → rowsIn v slot ≡ rowsIn w slot
   pub unlisted : (slot c : ℕ) → slot ≤ w .state .queue → slot ≢ w .state .place → c < w .state .columns → listLength v slot c ≡ listLength w slot c
 
@@ -148,6 +151,7 @@ module _ {w : World} {ext : ℕ → ℕ} {v : World} (a : Holding w ext) (g : Ru
         sizes = λ c q y. s .sizes c (rw (e .columns) at q) (sym (same-views e c) ∙ y);
         sixteen = s .sixteen;
         alone = s .alone;
+        unheld = s .unheld;
         uncounted = λ slot p n. let p′ : slot ≤ w .state .queue = rw (e .queue) at p in s .rows slot p′ ∙ a .uncounted slot p′ (λ z. n (queued-on w v slot b z));
         unlisted = λ slot c p d n q.
             let p′ : slot ≤ w .state .queue = rw (e .queue) at p in
@@ -174,8 +178,8 @@ pub live-stands : {w : World} {ext : ℕ → ℕ} {v : World} → Holding w ext 
 live-stands {w} a s slot c j p q l = s (numberAt w slot c j) (number-below a slot c j p q l) (number-live a slot c j p q l)
 
 -- a step of a push: besides, no live number loses a byte
-pub remains-moves : {w : World} {ext : ℕ → ℕ} {v : World} → Holding w ext → Goes w v → Beside w v → Remains w ext v → (Bytes (w .slots) → Bytes (v .slots)) → ((k : ℕ) → k < w .state .numbers → isFree (entryOf (w .books) k) ≡ false → Stands w v k) → Moves w ext v ext
-remains-moves a g b r x s =
+pub remains-moves : {w : World} {ext : ℕ → ℕ} {v : World} → Holding w ext → Goes w v → Beside w v → Remains w ext v → (Bytes (w .slots) → Bytes (v .slots)) → ((k : ℕ) → k < w .state .numbers → isFree (entryOf (w .books) k) ≡ false → Stands w v k) → PoolStays w v → Moves w ext v ext
+remains-moves a g b r x s t =
     record {
       holding = remains-holding a (g .run) (beside-alike b) r;
       goes = g;
@@ -185,6 +189,7 @@ remains-moves a g b r x s =
       cells = λ slot c i p q h. remains-shows a (g .run) (beside-alike b) r slot c i p q h .cell;
       bytes = x;
       stands = s;
+      pool = t;
     }
 
 -- ---- no step, and one behind another
@@ -200,6 +205,7 @@ moves-refl {w} a =
       cells = λ slot c i p q h. refl;
       bytes = λ x. x;
       stands = λ k l h. stands-refl w k h;
+      pool = pool-refl w;
     }
 
 -- a row of before is a row then
@@ -221,6 +227,7 @@ moves-trans {w} {v} m n =
       cells = λ slot c i p q h. n .cells slot c i (in-slots slot p) (in-columns c q) (rows-on m slot c i p h) ∙ m .cells slot c i p q h;
       bytes = λ x. n .bytes (m .bytes x);
       stands = λ k l h. let s = m .stands k l h in stands-trans s (n .stands k (in-numbers k l) (s .live));
+      pool = pool-trans (m .pool) (n .pool);
     }
   where
     in-slots : (slot : ℕ) → slot ≤ w .state .queue → slot ≤ v .state .queue
@@ -239,7 +246,7 @@ pub still-trans : {w v u : World} → Beside w v → BitsStill w v → BitsStill
 still-trans {w} {v} {u} b m n =
     record {
       bit = λ slot c i p q h.
-          let k = n .bit slot c i (omega (arith, b .set-up .queue)) (omega (arith, b .set-up .columns)) (omega (arith, ap (λ r. r .0) (b .set-up .rows))) in
+          let k = n .bit slot c i (omega (arith, b .set-up .queue)) (omega (arith, b .set-up .columns)) (omega (arith, same-bitmap-bytes (b .set-up))) in
           (rw (same-bitmap-place (b .set-up) slot c) at k) ∙ m .bit slot c i p q h;
     }
 
@@ -249,7 +256,7 @@ laid-on {w} {v} b c at from n r s m q h l =
     record {
       bit = λ j k.
           rw (same-bitmap-place (s .set-up) (v .state .place) c, s .place)
-          (m .bit (w .state .place) c (at + j) (r .fit .place) q (omega arith) ∙ l .bit j k);
+          (m .bit (w .state .place) c (at + j) (r .fit .place) q (omega (arith, bits-fit (w .state))) ∙ l .bit j k);
     }
 
 -- ---- more rows
@@ -263,6 +270,7 @@ holding-more {w} {ext} c n a q h new =
       sizes = a .sizes;
       sixteen = a .sixteen;
       alone = a .alone;
+      unheld = a .unheld;
       uncounted = a .uncounted;
       unlisted = a .unlisted;
       some = a .some;

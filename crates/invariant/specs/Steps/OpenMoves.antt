@@ -32,7 +32,7 @@ use Rattle.tallies.specs.TallyLaws.{framed-tally}
 use Rattle.room.specs.declared.Room.{Room}
 use Rattle.room.specs.declared.Chosen.{Chosen}
 use Rattle.room.specs.Room.{chosen, entryAt, takenFor, openedAs, opened}
-use Rattle.room.specs.RoomLaws.{Found-room, room-says}
+use Rattle.room.specs.RoomLaws.{Found-room, room-says, sound-block}
 use Rattle.state.specs.declared.Column.{Column}
 use Rattle.state.specs.declared.OpenBlock.{OpenBlock}
 use Rattle.state.specs.World.{World, columnOf}
@@ -50,11 +50,12 @@ use Rattle.push_safety.specs.Firm.{same-list-length}
 use Rattle.push_safety.specs.StepGoes.{column-cases, column-new}
 use Rattle.push_safety.specs.OpenGoes.{Opened, opened-anew}
 use Rattle.push_safety.specs.Along.{holds-both}
-use Rattle.invariant.specs.Holding.{reach, numberAt, timesIn, listings, HasOpen, Holding, Stands}
+use Rattle.invariant.specs.Holding.{reach, numberAt, timesIn, listings, HasOpen, Unheld, Holding, Stands, PoolStays}
 use Rattle.invariant.specs.BeginLaws.{begins-is}
 use Rattle.invariant.specs.Rests.{reach-open, reach-shut, number-listed, number-open}
 use Rattle.invariant.specs.CountLaws.{sum-ext}
-use Rattle.invariant.specs.AloneLaws.{open-counted, column-length, alone-one}
+use Rattle.invariant.specs.AloneLaws.{open-counted, column-length, other-open, alone-one}
+use Rattle.invariant.specs.PoolLaws.{relisted-is, books-stay}
 use Rattle.invariant.specs.Steps.Moves.{Moves, BitsStill}
 use Rattle.invariant.specs.Steps.MoveLaws.{Remains, remains-moves, live-stands}
 use Rattle.invariant.specs.Steps.OneList.{OneList, one-listings, one-lists}
@@ -84,11 +85,13 @@ module _ (w : World) (c min : ℕ) where
     found : Found-room (w .books) (w .state .numbers) (length (w .pool)) size room
     is : v ≡ openedWith room
 
-  anew : Holds Anew (Among (10 ∷ 11 ∷ 12 ∷ [])) (blockOpened w c min)
+  -- the entry of a free number is zero, so that 14 is not met
+  anew : {p : ℕ} {count : ℕ → ℕ} → Sound (w .books) (w .state .numbers) p count → Holds Anew (Among (10 ∷ 11 ∷ 12 ∷ [])) (blockOpened w c min)
   unfolding blockOpened opened openedAs
-  anew =
+  anew r =
       holds-cond (leb (listLength w (filling w) c + 1) (w .state .lists))
-      (λ l. holds-among (10 ∷ 11 ∷ 12 ∷ []) tt (go (chosen (w .books) (w .state .numbers) (length (w .pool)) size) refl))
+      (λ l. holds-among {ms = 11 ∷ 12 ∷ []} (10 ∷ 11 ∷ 12 ∷ []) tt
+      (rw (sound-block (w .books) (w .state .numbers) (length (w .pool)) size r) (go (chosen (w .books) (w .state .numbers) (length (w .pool)) size) refl)))
       (λ l. refused (one-of (10 ∷ 11 ∷ 12 ∷ []) 10 tt))
     where
       go : (x : Chosen) → chosen (w .books) (w .state .numbers) (length (w .pool)) size ≡ x → Holds Anew (Among (11 ∷ 12 ∷ [])) (opening w c min (takenFor (w .books) size 0 1 x))
@@ -134,6 +137,11 @@ module _ {w : World} {ext : ℕ → ℕ} (c min : ℕ) (a : Holding w ext) (q : 
   none : listings w k ≡ 0
   none = free-uncounted k (a .sound) (f .number .below) (f .number .accepted)
 
+  -- a number that was live is another
+  other-live : (j : ℕ) → isFree (entryOf (w .books) j) ≡ false → j ≢ k
+  other-live j h z =
+      true≢false (sym no-free ∙ ap isFree (sym (free-entry k (a .sound) (f .number .below) (f .number .accepted))) ∙ ap (λ (x : ℕ). isFree (entryOf (w .books) x)) (sym z) ∙ h)
+
   stands-here : (j : ℕ) → j < w .state .numbers → isFree (entryOf (w .books) j) ≡ false → Stands w v j
   stands-here j l h =
       record {
@@ -142,7 +150,7 @@ module _ {w : World} {ext : ℕ → ℕ} (c min : ℕ) (a : Holding w ext) (q : 
       }
     where
       other : j ≢ k
-      other z = true≢false (sym no-free ∙ ap isFree (sym (free-entry k (a .sound) (f .number .below) (f .number .accepted))) ∙ ap (λ (x : ℕ). isFree (entryOf (w .books) x)) (sym z) ∙ h)
+      other = other-live j h
 
   -- lists
   lengths : (slot d : ℕ) → listLength v slot d ≡ listLength w slot d
@@ -205,10 +213,28 @@ module _ {w : World} {ext : ℕ → ℕ} (c min : ℕ) (a : Holding w ext) (q : 
       (a .sizes d r z)
 
   -- its number was free, so that no column had it open
-  other-open : (j : ℕ) → HasOpen (v .state) c j → (d : ℕ) → HasOpen (w .state) d j → ⊥
-  other-open j p d g =
+  new-open : (j : ℕ) → HasOpen (v .state) c j → (d : ℕ) → HasOpen (w .state) d j → ⊥
+  new-open j p d g =
       let z : j ≡ k = ap blockNumber (sym (p .block) ∙ block) in
       omega (arith, open-counted a d j g, ap (listings w) z, none)
+
+  open-was : (d j : ℕ) → j ≢ k → HasOpen (v .state) d j → HasOpen (w .state) d j
+  open-was d j n p = go (ℕ-discrete d c)
+    where
+      go : Dec (d ≡ c) → HasOpen (w .state) d j
+      go (yes z) = absurd (n (ap blockNumber (sym (rw z at (p .block)) ∙ block)))
+      go (no z) = other-open c (b .set-up) (one .blocks) d j z p
+
+  pool-here : PoolStays w v
+  pool-here =
+      books-stay w v (b .set-up .numbers) refl (λ j l h. stands-here j l h .live) (λ j l h. relisted-is (changed .other j (other-live j h))) (λ d j h p. open-was d j (other-live j h) p)
+
+  unheld-here : Unheld (v .state) (v .books)
+  unheld-here = record { unheld = λ d j p. go d j p (ℕ-discrete j k) }
+    where
+      go : (d j : ℕ) → HasOpen (v .state) d j → Dec (j ≡ k) → entryOf (v .books) j .hold ≡ 0
+      go d j p (yes z) = rw z (ap (λ (x : Entry). x .hold) (changed .same))
+      go d j p (no z) = ap (λ (x : Entry). x .hold) (changed .other j z) ∙ a .unheld .unheld d j (open-was d j z p)
 
   remains : Remains w ext v
   remains =
@@ -220,7 +246,8 @@ module _ {w : World} {ext : ℕ → ℕ} (c min : ℕ) (a : Holding w ext) (q : 
         listed = λ slot d i p r h. rw (entries slot d i) (a .listed slot d i p r (omega (arith, lengths slot d)));
         sizes = sizes-here;
         sixteen = column-length (w .state) c (source w c min) (OpenBlock.Number (room .number)) ∙ a .sixteen;
-        alone = alone-one c (b .set-up) (one .blocks) (λ d j n p g. other-open j p d g) (a .alone);
+        alone = alone-one c (b .set-up) (one .blocks) (λ d j n p g. new-open j p d g) (a .alone);
+        unheld = unheld-here;
         rows = λ slot p. same-rows-in w v (b .set-up) (changed .framed) slot;
         unlisted = λ slot d p z r. lengths slot d;
       }
@@ -236,8 +263,8 @@ pub record NewBlock (w : World) (ext : ℕ → ℕ) (c min : ℕ) (v : World) : 
 
 pub opened-moves : {w : World} {ext : ℕ → ℕ} (c min : ℕ) → Holding w ext → c < w .state .columns → isViews (w .state) c ≡ true → isOpen w c ≡ false → Holds (NewBlock w ext c min) (Among (10 ∷ 11 ∷ 12 ∷ [])) (blockOpened w c min)
 opened-moves {w} {ext} c min a q y o =
-    holds-more (holds-both (opened-anew w c min (a .run) q y) (holds-both (anew w c min) (opened-holds w c min)))
-    (λ v p. fresh v (p .0) (p .1 .0) (p .1 .1))
+    holds-more (holds-both (anew w c min (a .sound)) (holds-both (opened-anew w c min (a .run) q y) (opened-holds w c min)))
+    (λ v p. fresh v (p .1 .0) (p .0) (p .1 .1))
     (λ n m. m)
   where
     fresh : (v : World) → Opened w c min v → Anew w c min v → Beside w v → NewBlock w ext c min v
@@ -245,7 +272,7 @@ opened-moves {w} {ext} c min a q y o =
         let t : Beside w (openedWith w c min (n .room)) = rw (n .is) at b in
         let s : Remains w ext v = rw (n .is) (remains c min a q y o (n .room) (n .found) t) in
         record {
-          moves = remains-moves a (g .goes) b s (λ z. rw (n .is) z) (λ k l h. rw (n .is) (stands-here c min a q y o (n .room) (n .found) t k l h));
+          moves = remains-moves a (g .goes) b s (λ z. rw (n .is) z) (λ k l h. rw (n .is) (stands-here c min a q y o (n .room) (n .found) t k l h)) (rw (n .is) (pool-here c min a q y o (n .room) (n .found) t));
           still = rw (n .is) (record { bit = λ slot d i p r l. refl });
           is-open = g .is-open;
           rest = g .rest;

@@ -25,7 +25,7 @@ use Rattle.invariant.specs.Steps.Stored.{moves-more}
 use Rattle.invariant.specs.Steps.RaiseMoves.{extends-after}
 use Rattle.invariant.specs.Steps.CloseMoves.{closed-moves, closed-still}
 use Rattle.invariant.specs.Steps.OpenMoves.{opened-moves}
-use Rattle.invariant.specs.Steps.CompactMoves.{Compacts, views-compacted}
+use Rattle.invariant.specs.Steps.CompactMoves.{views-compacted}
 
 -- the rows of each column are all that counts
 pub holding-ext : {w : World} {ext : ℕ → ℕ} (ext′ : ℕ → ℕ) → ((c : ℕ) → c < w .state .columns → ext′ c ≡ ext c) → Holding w ext → Holding w ext′
@@ -37,6 +37,7 @@ holding-ext {w} {ext} ext′ e a =
       sizes = a .sizes;
       sixteen = a .sixteen;
       alone = a .alone;
+      unheld = a .unheld;
       uncounted = a .uncounted;
       unlisted = a .unlisted;
       some = a .some;
@@ -63,6 +64,7 @@ module _ {w v : World} {ext : ℕ → ℕ} {b : Batch} (c from k n : ℕ) (a : H
       record {
         moves = moves-ext (more ext c n) twice (moves-trans (first .moves) (e .moves));
         new = λ j h. new j h (decLt j k);
+        still = still-trans (first .moves .beside) (first .still) (e .still);
       }
     where
       s : Beside w v
@@ -107,7 +109,7 @@ module _ {w : World} {ext : ℕ → ℕ} (b : Batch) (c from n : ℕ) (a : Holdi
       holds-more (views-compacted b c i k (z .moves .holding) (sourced-on x′ (z .moves) (g .holding .run)) (omega (arith, q′, z .moves .beside .set-up .columns)) (same-views (z .moves .beside .set-up) c ∙ y′) (z .is-open) (omega (arith, r, rows-are, ap (λ r. r .0) (z .moves .beside .set-up .rows))) e
       (omega (arith, f, z .rest, same-long-before w v b (g .beside .set-up) c i k, same-long-before v u b (z .moves .beside .set-up) c i k))
       (laid-on b c (ext′ c) i k (g .holding .run) (z .moves .beside) (z .still) q′ (omega (arith, rows-are)) l))
-      (λ u₂ d. extends-after (g .holding) x′ q′ e (z .moves) (d .extends))
+      (λ u₂ d. extends-after (g .holding) x′ q′ e (z .moves) (z .still) d)
       (λ j p. among-more rooms tt p))
     where
       x′ : ReadableBatch v b
@@ -136,15 +138,15 @@ module _ {w : World} {ext : ℕ → ℕ} (b : Batch) (c from n : ℕ) (a : Holdi
       omega (arith, part-ideal w b c from n m)
 
   -- two blocks: the walk into the open one, then the rest into a new one
-  second : (v : World) → Compacts w ext b c from k v → Holds (Extends w ext b c from n) (Among rooms) (bind (blockOpened (closed v c) c (ideal w b c - longBefore w b c from k)) (λ u. viewsCompacted u b c (ext c + k) (from + k) (n - k)))
+  second : (v : World) → Extends w ext b c from k v → Holds (Extends w ext b c from n) (Among rooms) (bind (blockOpened (closed v c) c (ideal w b c - longBefore w b c from k)) (λ u. viewsCompacted u b c (ext c + k) (from + k) (n - k)))
   second v d =
       holds-more
       (rw (more-here ext c k) at (anew (ideal w b c - longBefore w b c from k) (from + k) (n - k) g s (ap hasBlock (closed-shut v c y′)) (omega (arith, here, k-most)) (omega (arith, k-most)) behind l))
-      (λ u e. extends-twice c from k n a x q m k-most (d .extends) (extends-after (d .extends .moves .holding) x′ q′ (omega (arith, k-most)) shut e))
+      (λ u e. extends-twice c from k n a x q m k-most d (extends-after (d .moves .holding) x′ q′ (omega (arith, k-most)) shut shut-still e))
       (λ j p. p)
     where
       b₁ : Beside w v
-      b₁ = d .extends .moves .beside
+      b₁ = d .moves .beside
 
       q′ : c < v .state .columns
       q′ = omega (arith, b₁ .set-up .columns)
@@ -153,19 +155,22 @@ module _ {w : World} {ext : ℕ → ℕ} (b : Batch) (c from n : ℕ) (a : Holdi
       y′ = same-views (b₁ .set-up) c ∙ y
 
       x′ : ReadableBatch v b
-      x′ = sourced-on x (d .extends .moves) (a .run)
+      x′ = sourced-on x (d .moves) (a .run)
 
       here : more ext c k c ≡ ext c + k
       here = more-here ext c k
 
       shut : Moves v (more ext c k) (closed v c) (more ext c k)
-      shut = closed-moves c (d .extends .moves .holding) q′ y′
+      shut = closed-moves c (d .moves .holding) q′ y′
+
+      shut-still : BitsStill v (closed v c)
+      shut-still = closed-still c (d .moves .holding) q′ y′
 
       g : Moves w ext (closed v c) (more ext c k)
-      g = moves-trans (d .extends .moves) shut
+      g = moves-trans (d .moves) shut
 
       s : BitsStill w (closed v c)
-      s = still-trans b₁ (d .still) (closed-still c (d .extends .moves .holding) q′ y′)
+      s = still-trans b₁ (d .still) shut-still
 
       l : Laid (closed v c) b c (more ext c k c) (from + k) (n - k)
       l = rw here (laid-part k (n - k) (omega (arith, k-most)) (laid-on b c (ext c) from n (a .run) (g .beside) s q h t))
@@ -175,6 +180,6 @@ module _ {w : World} {ext : ℕ → ℕ} (b : Batch) (c from n : ℕ) (a : Holdi
   part-compacted-extends =
       holds-cond (isOpen w c)
       (λ o. holds-cond (leb (ideal w b c) (openRest w c))
-      (λ r. holds-more (views-compacted b c from n a x q y o h m (omega (arith, leb-true (ideal w b c) (openRest w c) r, part-ideal w b c from n m)) t) (λ v d. d .extends) (λ j p. among-more rooms tt p))
+      (λ r. holds-more (views-compacted b c from n a x q y o h m (omega (arith, leb-true (ideal w b c) (openRest w c) r, part-ideal w b c from n m)) t) (λ v d. d) (λ j p. among-more rooms tt p))
       (λ r. holds-bind _ (holds-more (views-compacted b c from k a x q y o (omega (arith, k-most)) (omega (arith, k-most)) (walked-rest w b c from n (openRest w c)) (laid-first k k-most t)) (λ v d. d) (λ j p. among-more rooms tt p)) second))
       (λ o. anew (ideal w b c) from n (moves-refl a) (still-refl w) o h m (part-ideal w b c from n m) t)

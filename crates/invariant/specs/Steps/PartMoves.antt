@@ -20,13 +20,14 @@ use Rattle.rules.specs.Views.{filling, bitsCopied, byWay, columnCopied, partCop
 use Rattle.rules.specs.Held.{Among, Holds, held, holds-more, holds-bind, holds-among}
 use Rattle.rules.specs.Stays.{SameSetUp, Beside, same-trans}
 use Rattle.rules.specs.SameLaws.{same-views, same-row-view}
-use Rattle.invariant.specs.Holding.{Holding}
+use Rattle.invariant.specs.Holding.{Spared, Holding}
 use Rattle.invariant.specs.CountLaws.{sum-least}
-use Rattle.invariant.specs.Steps.Moves.{more, Moves, ReadableBatch, Laid, Extends}
+use Rattle.invariant.specs.Steps.Moves.{more, Moves, ReadableBatch, Laid, Extends, Adds}
+use Rattle.invariant.specs.Steps.SpareMoves.{spared-ext, adds-after}
 use Rattle.invariant.specs.Steps.MoveLaws.{more-here, more-other, moves-refl, moves-trans, sourced-on, batch-on, rows-filling}
 use Rattle.invariant.specs.Steps.CopyMoves.{bits-moves, bits-laid}
 use Rattle.invariant.specs.Steps.ValueMoves.{values-extends}
-use Rattle.invariant.specs.Steps.RaiseMoves.{extends-after, part-attached-extends}
+use Rattle.invariant.specs.Steps.RaiseMoves.{part-attached-extends}
 use Rattle.invariant.specs.Steps.PartCompact.{moves-ext, part-compacted-extends}
 
 abbrev rooms : List ℕ
@@ -78,10 +79,10 @@ module _ {w : World} {ext : ℕ → ℕ} (w₀ : World) (b : Batch) (c from n : 
   h′ = omega (arith, ap (λ r. r .0) (v-moves .beside .set-up .rows))
 
   -- rows put behind the bits are rows put
-  behind : {u : World} → Extends v ext b c from n u → Extends w ext b c from n u
-  behind e = extends-after a x q m v-moves e
+  behind : {u : World} → Extends v ext b c from n u → Adds w ext b c from n u
+  behind e = adds-after a x q h m e
 
-  by-way : (z : Way) → (isViews (w .state) c ≡ true → z ≡ way w₀ b c) → (isViews (w .state) c ≡ false → z ≡ Way.Copied) → Holds (Extends w ext b c from n) (Among rooms) (byWay v b c (ext c) from n z)
+  by-way : (z : Way) → (isViews (w .state) c ≡ true → z ≡ way w₀ b c) → (isViews (w .state) c ≡ false → z ≡ Way.Copied) → Holds (Adds w ext b c from n) (Among rooms) (byWay v b c (ext c) from n z)
   by-way Way.Copied p r =
       held
       (behind (values-extends b c from n (v-moves .holding) v-sourced q′ h′ m v-laid (λ y j l.
@@ -89,24 +90,24 @@ module _ {w : World} {ext : ℕ → ℕ} (w₀ : World) (b : Batch) (c from n : 
       (copied-inline w₀ b c (from + j) (sym (p (sym (same-views (v-moves .beside .set-up) c) ∙ y))) (omega arith)))))
   by-way Way.Attached p r = by-views (isViews (w .state) c) refl
     where
-      by-views : (t : Bool) → isViews (w .state) c ≡ t → Holds (Extends w ext b c from n) (Among rooms) (byWay v b c (ext c) from n Way.Attached)
+      by-views : (t : Bool) → isViews (w .state) c ≡ t → Holds (Adds w ext b c from n) (Among rooms) (byWay v b c (ext c) from n Way.Attached)
       by-views true y =
           holds-among rooms tt
           (holds-more (part-attached-extends b c from n (v-moves .holding) v-sourced q′ (same-views (v-moves .beside .set-up) c ∙ y) h′ m v-laid) (λ u e. behind e) (λ j l. l))
       by-views false y = let e = r y in let t : _≡_ {A = ℕ} 0 1 = cc in absurd (omega arith)
   by-way Way.Compacted p r = by-views (isViews (w .state) c) refl
     where
-      by-views : (t : Bool) → isViews (w .state) c ≡ t → Holds (Extends w ext b c from n) (Among rooms) (byWay v b c (ext c) from n Way.Compacted)
+      by-views : (t : Bool) → isViews (w .state) c ≡ t → Holds (Adds w ext b c from n) (Among rooms) (byWay v b c (ext c) from n Way.Compacted)
       by-views true y =
           holds-more (part-compacted-extends b c from n (v-moves .holding) v-sourced q′ (same-views (v-moves .beside .set-up) c ∙ y) h′ m v-laid) (λ u e. behind e) (λ j l. l)
       by-views false y = let e = r y in let t : _≡_ {A = ℕ} 0 1 = cc in absurd (omega arith)
 
-  pub column-extends : ext c ≡ w .state .buffered .0 → Holds (Extends w ext b c from n) (Among (10 ∷ 11 ∷ 12 ∷ [])) (columnCopied w₀ w b c from n)
+  pub column-adds : ext c ≡ w .state .buffered .0 → Holds (Adds w ext b c from n) (Among (10 ∷ 11 ∷ 12 ∷ [])) (columnCopied w₀ w b c from n)
   unfolding columnCopied
-  column-extends e =
+  column-adds e =
       ap-holds e (by-way (cond (isViews (w .state) c) (way w₀ b c) Way.Copied) (λ y. rw y) (λ y. rw y))
     where
-      ap-holds : {at at′ : ℕ} → at ≡ at′ → Holds (Extends w ext b c from n) (Among rooms) (byWay (bitsCopied w b c (filling w) at from n) b c at from n (cond (isViews (w .state) c) (way w₀ b c) Way.Copied)) → Holds (Extends w ext b c from n) (Among rooms) (byWay (bitsCopied w b c (filling w) at′ from n) b c at′ from n (cond (isViews (w .state) c) (way w₀ b c) Way.Copied))
+      ap-holds : {at at′ : ℕ} → at ≡ at′ → Holds (Adds w ext b c from n) (Among rooms) (byWay (bitsCopied w b c (filling w) at from n) b c at from n (cond (isViews (w .state) c) (way w₀ b c) Way.Copied)) → Holds (Adds w ext b c from n) (Among rooms) (byWay (bitsCopied w b c (filling w) at′ from n) b c at′ from n (cond (isViews (w .state) c) (way w₀ b c) Way.Copied))
       ap-holds e h = rw e at h
 
 -- ---- a part of every column
@@ -148,20 +149,22 @@ module _ (w₀ w : World) (b : Batch) (from n : ℕ) where
   pub record Parted (c : ℕ) (v : World) : Type 0 where
     pub moves : Moves w (λ d. rows) v (upToColumn rows n c)
     pub new : (d j : ℕ) → d < c → j < n → slotCell v (filling w) d (rows + j) ≡ batchCell w b d (from + j)
+    pub spared : Spared v (upToColumn rows n c)
 
-  module _ (a : Holding w (λ d. rows)) (x : ReadableBatch w b) (same : SameSetUp (w₀ .state) (w .state)) (h : rows + n ≤ w .state .rows .0) (m : from + n ≤ b .rows) where
+  module _ (a : Holding w (λ d. rows)) (x : ReadableBatch w b) (same : SameSetUp (w₀ .state) (w .state)) (h : rows + n ≤ w .state .rows .0) (m : from + n ≤ b .rows) (z : Spared w (λ d. rows)) where
     begin : Parted 0 w
     begin =
         record {
           moves = moves-ext (upToColumn rows n 0) (λ d. column-behind rows n 0 d (omega arith)) (moves-refl a);
           new = λ d j l k. absurd (omega arith);
+          spared = spared-ext (upToColumn rows n 0) (λ d q. column-behind rows n 0 d (omega arith)) z;
         }
 
     next : (v : World) (c : ℕ) → c < w .state .columns → Parted c v → Holds (Parted (suc c)) (Among rooms) (columnCopied w₀ v b c from n)
     next v c q p =
         holds-more
-        (column-extends w₀ b c from n (p .moves .holding) (sourced-on x (p .moves) (a .run)) (same-trans same (s .set-up)) (omega (arith, s .set-up .columns)) (omega (arith, here, ap (λ r. r .0) (s .set-up .rows))) m (here ∙ ap (λ r. r .0) (sym (s .buffered))))
-        (λ u e. record { moves = moves-ext (upToColumn rows n (suc c)) (next-column rows n c) (moves-trans (p .moves) (e .moves)); new = λ d j l k. new u e d j l k (decLt d c) })
+        (column-adds w₀ b c from n (p .moves .holding) (sourced-on x (p .moves) (a .run)) (same-trans same (s .set-up)) (omega (arith, s .set-up .columns)) (omega (arith, here, ap (λ r. r .0) (s .set-up .rows))) m (here ∙ ap (λ r. r .0) (sym (s .buffered))))
+        (λ u e. record { moves = moves-ext (upToColumn rows n (suc c)) (next-column rows n c) (moves-trans (p .moves) (e .moves)); new = λ d j l k. new u e d j l k (decLt d c); spared = spared-ext (upToColumn rows n (suc c)) (λ d q. next-column rows n c d) (e .spared (p .spared)) })
         (λ i l. l)
       where
         s : Beside w v
@@ -170,7 +173,7 @@ module _ (w₀ w : World) (b : Batch) (from n : ℕ) where
         here : upToColumn rows n c c ≡ rows
         here = column-behind rows n c c (omega arith)
 
-        new : (u : World) → Extends v (upToColumn rows n c) b c from n u → (d j : ℕ) → d < suc c → j < n → Dec (d < c) → slotCell u (filling w) d (rows + j) ≡ batchCell w b d (from + j)
+        new : (u : World) → Adds v (upToColumn rows n c) b c from n u → (d j : ℕ) → d < suc c → j < n → Dec (d < c) → slotCell u (filling w) d (rows + j) ≡ batchCell w b d (from + j)
         new u e d j l k (yes t) =
             e .moves .cells (filling w) d (rows + j) (omega (arith, a .run .fit .place, s .set-up .queue)) (omega (arith, s .set-up .columns))
             (omega (arith, rows-filling v (upToColumn rows n c) (filling w) d (sym (s .place)), column-before rows n c d t))

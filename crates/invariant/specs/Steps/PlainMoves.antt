@@ -9,6 +9,7 @@ use lib.ListN.{length, take-append-drop}
 use lib.Seq.{take-all}
 use Rattle.words.specs.WordLaws.{Bytes}
 use Rattle.words.specs.Run.{read, put, lay}
+use Rattle.books.specs.declared.Entry.{Entry}
 use Rattle.books.specs.Entry.{entryOf, isFree}
 use Rattle.listings.specs.Listing.{overList}
 use Rattle.sound.specs.SoundLaws.{sound-recount}
@@ -23,11 +24,12 @@ use Rattle.rules.specs.Views.{hasBlock, openNumber, listAttached}
 use Rattle.rules.specs.PartLaws.{counting-beside}
 use Rattle.push_safety.specs.Run.{ColumnReads}
 use Rattle.push_safety.specs.StepGoes.{counting-goes}
-use Rattle.invariant.specs.Holding.{reach, numberAt, listings, Holding, Stands}
+use Rattle.invariant.specs.Holding.{reach, numberAt, listings, Holding, Stands, PoolStays}
 use Rattle.invariant.specs.BeginLaws.{begins-is}
 use Rattle.invariant.specs.Rests.{reach-shut, reach-open}
 use Rattle.invariant.specs.CountLaws.{times-same, listings-same}
 use Rattle.invariant.specs.Steps.Moves.{more, Moves, BitsStill}
+use Rattle.invariant.specs.PoolLaws.{relisted-is, books-stay, unheld-on}
 use Rattle.invariant.specs.Steps.MoveLaws.{Remains, remains-moves, live-stands}
 use Rattle.invariant.specs.Steps.TallyMoves.{tally-sound, tally-filled, counting-rows, counting-length, counting-length-here}
 
@@ -91,6 +93,11 @@ module _ {w : World} {ext : ℕ → ℕ} (b : Batch) (c : ℕ) (a : Holding w ex
   unfolding counting
   stands-here k l h = record { live = ap isFree (entry-withTally (w .books) (tally (w .state) place (c + 1)) 0 k l) ∙ h; begins = begins-is (tally-filled (w .books) (w .pool) (tally (w .state) place (c + 1)) 0 k l) }
 
+  pool-here : PoolStays w v
+  unfolding counting
+  pool-here =
+      books-stay w v refl refl (λ k l h. stands-here k l h .live) (λ k l h. relisted-is (entry-withTally (w .books) (tally (w .state) place (c + 1)) 0 k l)) (λ d k h o. o)
+
   bytes-here : Bytes (w .slots) → Bytes (v .slots)
   unfolding counting
   bytes-here z = z
@@ -107,6 +114,7 @@ module _ {w : World} {ext : ℕ → ℕ} (b : Batch) (c : ℕ) (a : Holding w ex
         sizes = a .sizes;
         sixteen = a .sixteen;
         alone = a .alone;
+        unheld = unheld-on a (v .state) (v .books) (λ d k o. o) (λ k l h z. ap (λ (e : Entry). e .hold) (entry-withTally (w .books) (tally (w .state) place (c + 1)) 0 k l) ∙ z);
         rows = λ slot p. counting-rows w place (c + 1) 0 slot (omega arith) (λ e z. omega arith);
         unlisted = λ slot d p z r. lengths slot d p r;
       }
@@ -119,6 +127,7 @@ module _ {w : World} {ext : ℕ → ℕ} (b : Batch) (c : ℕ) (a : Holding w ex
       remains
       bytes-here
       stands-here
+      pool-here
 
   pub plain-moves : Moves w ext (listAttached w b c) ext
   plain-moves = rw plain-is plain-so

@@ -34,7 +34,7 @@ use Rattle.invariant.specs.ByteLaws.{bytes-views}
 use Rattle.invariant.specs.Rests.{buffer-number}
 use Rattle.invariant.specs.CountLaws.{reach-most}
 use Rattle.invariant.specs.Steps.Moves.{Moves, BitsStill, ReadableBatch, Laid, Extends}
-use Rattle.invariant.specs.Steps.MoveLaws.{moves-trans, laid-on, sourced-on, batch-on}
+use Rattle.invariant.specs.Steps.MoveLaws.{moves-trans, laid-on, sourced-on, batch-on, still-trans}
 use Rattle.invariant.specs.SlotLaws.{slots-reach, slots-number}
 use Rattle.invariant.specs.Steps.CopyMoves.{cells-word, cells-still, cells-moves}
 use Rattle.invariant.specs.Steps.Stored.{Stored, stored-extends}
@@ -44,13 +44,14 @@ use Rattle.invariant.specs.Steps.AttachMoves.{attached-moves, attached-s
 
 -- ---- rows put by a later step
 
-pub extends-after : {w v u : World} {ext : ℕ → ℕ} {b : Batch} {c from n : ℕ} → Holding w ext → ReadableBatch w b → c < w .state .columns → from + n ≤ b .rows → Moves w ext v ext → Extends v ext b c from n u → Extends w ext b c from n u
-extends-after {w} {v} {u} {ext} {b} {c} {from} {n} a x q h m e =
+pub extends-after : {w v u : World} {ext : ℕ → ℕ} {b : Batch} {c from n : ℕ} → Holding w ext → ReadableBatch w b → c < w .state .columns → from + n ≤ b .rows → Moves w ext v ext → BitsStill w v → Extends v ext b c from n u → Extends w ext b c from n u
+extends-after {w} {v} {u} {ext} {b} {c} {from} {n} a x q h m s e =
     record {
       moves = moves-trans m (e .moves);
       new = λ j l.
           ap (λ (s : ℕ). slotCell u s c (ext c + j)) (sym (m .beside .place)) ∙ e .new j l
           ∙ batch-on x m (a .run) c (from + j) q (omega arith);
+      still = still-trans (m .beside) s (e .still);
     }
 
 -- ---- n views put behind the rows of a column
@@ -147,7 +148,7 @@ module _ {w : World} {ext : ℕ → ℕ} (b : Batch) (c k from n : ℕ) (a : Hol
   pub raised-extends : Laid w b c (ext c) from n → Extends w ext b c from n (viewsRaised w b c k (ext c) from n)
   raised-extends l =
       rw raised-is
-      (stored-extends b c from n v-moves q h (laid-on b c (ext c) from n (a .run) (v-moves .beside) (put-still b c from n a q y h raised fits) q h l) stored)
+      (stored-extends b c from n v-moves q h (laid-on b c (ext c) from n (a .run) (v-moves .beside) (put-still b c from n a q y h raised fits) q h l) stored (put-still b c from n a q y h raised fits))
 
 -- ---- the part
 
@@ -160,7 +161,7 @@ module _ {w : World} {ext : ℕ → ℕ} (b : Batch) (c from n : ℕ) (a : Holdi
 
   attached-extends : listLength u (filling w) c + recordOf b c .count ≤ w .state .lists → Extends w ext b c from n (viewsRaised (listAttached u b c) b c (listLength u (filling w) c) (ext c) from n)
   attached-extends t =
-      extends-after a x q m (moves-trans shut-moves mid)
+      extends-after a x q m (moves-trans shut-moves mid) (still-trans e (closed-still c a q y) mid-still)
       (rw len (raised-extends b c (listLength u (u .state .place) c) from n (mid .holding) (sourced-on (sourced-on x shut-moves (a .run)) mid (shut-moves .holding .run)) q″ y″ h″ m reach-is number-is laid″))
     where
       e : Beside w u
@@ -184,6 +185,9 @@ module _ {w : World} {ext : ℕ → ℕ} (b : Batch) (c from n : ℕ) (a : Holdi
       mid : Moves u ext (listAttached u b c) ext
       mid = attached-moves b c (shut-moves .holding) reads q′ y′ (closed-shut w c y) t′ (x .bytes)
 
+      mid-still : BitsStill u (listAttached u b c)
+      mid-still = attached-still b c (shut-moves .holding) reads q′ y′ (closed-shut w c y) t′
+
       q″ : c < listAttached u b c .state .columns
       q″ = omega (arith, q′, mid .beside .set-up .columns)
 
@@ -203,7 +207,7 @@ module _ {w : World} {ext : ℕ → ℕ} (b : Batch) (c from n : ℕ) (a : Holdi
 
       laid″ : Laid (listAttached u b c) b c (ext c) from n
       laid″ =
-          laid-on b c (ext c) from n (shut-moves .holding .run) (mid .beside) (attached-still b c (shut-moves .holding) reads q′ y′ (closed-shut w c y) t′) q′ (omega (arith, ap (λ r. r .0) (e .set-up .rows)))
+          laid-on b c (ext c) from n (shut-moves .holding .run) (mid .beside) mid-still q′ (omega (arith, ap (λ r. r .0) (e .set-up .rows)))
           (laid-on b c (ext c) from n (a .run) e (closed-still c a q y) q h l)
 
   pub part-attached-extends : Holds (Extends w ext b c from n) (Among (10 ∷ [])) (partAttached w b c (ext c) from n)

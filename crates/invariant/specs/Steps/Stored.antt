@@ -16,7 +16,7 @@ use Rattle.rules.specs.Stays.{SameSetUp}
 use Rattle.rules.specs.SameLaws.{same-width, same-views, same-cell-place}
 use Rattle.invariant.specs.Holding.{reach, Holding}
 use Rattle.invariant.specs.Rests.{cell-is}
-use Rattle.invariant.specs.Steps.Moves.{Moves, Laid, Extends}
+use Rattle.invariant.specs.Steps.Moves.{Moves, BitsStill, Laid, Extends}
 use Rattle.invariant.specs.Steps.MoveLaws.{more-least, holding-more}
 
 -- the value of row i of column c of the batch stands at row j of the slot that is being filled
@@ -27,9 +27,9 @@ pub record Stored (w v : World) (b : Batch) (c i j : ℕ) : Type 0 where
 -- the same rows, of a world whose holding is known with more of them
 pub moves-more : {w v : World} {ext ext′ ext″ : ℕ → ℕ} → Moves w ext v ext′ → ((c : ℕ) → ext c ≤ ext″ c) → Holding v ext″ → Moves w ext v ext″
 moves-more m g a =
-    record { holding = a; goes = m .goes; beside = m .beside; grows = g; rows = m .rows; cells = m .cells; bytes = m .bytes; stands = m .stands }
+    record { holding = a; goes = m .goes; beside = m .beside; grows = g; rows = m .rows; cells = m .cells; bytes = m .bytes; stands = m .stands; pool = m .pool }
 
-module _ {w v : World} {ext : ℕ → ℕ} (b : Batch) (c from n : ℕ) (m : Moves w ext v ext) (q : c < w .state .columns) (h : ext c + n ≤ w .state .rows .0) (l : Laid v b c (ext c) from n) (s : (j : ℕ) → j < n → Stored w v b c (from + j) (ext c + j)) where
+module _ {w v : World} {ext : ℕ → ℕ} (b : Batch) (c from n : ℕ) (m : Moves w ext v ext) (q : c < w .state .columns) (h : ext c + n ≤ w .state .rows .0) (l : Laid v b c (ext c) from n) (s : (j : ℕ) → j < n → Stored w v b c (from + j) (ext c + j)) (t : BitsStill w v) where
   e : SameSetUp (w .state) (v .state)
   e = m .beside .set-up
 
@@ -56,4 +56,5 @@ module _ {w v : World} {ext : ℕ → ℕ} (b : Batch) (c from n : ℕ) (m : Mov
             moves-more m (more-least ext c n)
             (holding-more c n (m .holding) (omega (arith, e .columns)) (omega (arith, ap (λ r. r .0) (e .rows))) new-valid);
         new = new-cell;
+        still = t;
       }

@@ -113,7 +113,7 @@ module _ {w : World} {ext : ℕ → ℕ} (b : Batch) (c at from n : ℕ) (a : Ho
 module _ {w : World} {ext : ℕ → ℕ} (b : Batch) (c from n : ℕ) (a : Holding w ext) (x : ReadableBatch w b) (q : c < w .state .columns) (h : ext c + n ≤ w .state .rows .0) (m : from + n ≤ b .rows) where
   pub values-extends : Laid w b c (ext c) from n → (isViews (w .state) c ≡ true → (j : ℕ) → j < n → rowView w b c (from + j) .length ≤ 12) → Extends w ext b c from n (valuesCopied w b c (filling w) (ext c) from n)
   values-extends l inline =
-      stored-extends b c from n moves q h (laid-on b c (ext c) from n (a .run) (moves .beside) (values-still b c (ext c) from n a x q (omega arith) h m) q h l)
+      stored-extends b c from n moves q h (laid-on b c (ext c) from n (a .run) (moves .beside) still q h l)
       (λ j k.
       record {
         shown = λ y.
@@ -121,6 +121,10 @@ module _ {w : World} {ext : ℕ → ℕ} (b : Batch) (c from n : ℕ) (a : Holdi
             (keeps-inline (rowView w b c (from + j)) (listedBytes w b c) (recordOf b c .count) _ _ (inline y j k) (x .valid c (from + j) q y (omega arith)));
         plain = λ y. values-plain b c (ext c) from n a x q (omega arith) h m j k;
       })
+      still
     where
+      still : BitsStill w (valuesCopied w b c (filling w) (ext c) from n)
+      still = values-still b c (ext c) from n a x q (omega arith) h m
+
       moves : Moves w ext (valuesCopied w b c (filling w) (ext c) from n) ext
       moves = values-moves b c (ext c) from n a x q (omega arith) h m

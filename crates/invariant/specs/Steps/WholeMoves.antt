@@ -83,8 +83,8 @@ module _ {w : World} {ext : ℕ → ℕ} (b : Batch) (c : ℕ) (a : Holding w ex
 
     whole-extends : Extends w ext b c 0 (b .rows) u
     whole-extends =
-        extends-after a x q (omega arith) v-moves
-        (stored-extends b c 0 (b .rows) m q′ (omega (arith, none, v-sourced .reads .rows-fit)) laid″ stored)
+        extends-after a x q (omega arith) v-moves v-still
+        (stored-extends b c 0 (b .rows) m q′ (omega (arith, none, v-sourced .reads .rows-fit)) laid″ stored s)
 
   -- of views: the views are those of the batch, and their buffers those of its list
   views-whole : isViews (w .state) c ≡ true → WholeColumn w ext b c u

@@ -1,7 +1,7 @@
 -- `making_room::open_as` meets its contract.
 use native.Mathlib.Omega.{arith}
 use borrow.Author.Needs.{needs}
-use Rattle.room.specs.RoomLaws.{number-room, number-few, capacity-fits, opens-not, opens-at}
+use Rattle.room.specs.RoomLaws.{number-room, number-few, capacity-fits, opens-not, opens-at, opens-dirty}
 use Rattle.making_room.proofs.open_as.Statement.{statement}
 use Rattle.making_room.proofs.open_as.Tie as tie
 
@@ -20,8 +20,17 @@ same-length c = search needs
 returns : tie.Need-returns
 returns c = search (opens-not, needs)
 
-cast-t12 : tie.Need-cast-t12
-cast-t12 c = let f = c .before .before in record { fits = capacity-fits _ _ _ _ (f .before .before .choose .ensures) (f .room .given .1) (omega arith) }
+cast-entry-at : tie.Need-cast-entry-at
+cast-entry-at c = search needs
+
+entry-at-requires : tie.Need-entry-at-requires
+entry-at-requires c κs = search (number-room, needs)
+
+is-zero-requires : tie.Need-is-zero-requires
+is-zero-requires c κs = search needs
+
+cast-t18 : tie.Need-cast-t18
+cast-t18 c = let f = c .before .before .before .before .before .before .before in record { fits = capacity-fits _ _ _ _ (f .before .before .choose .ensures) (f .room .given .1) (omega arith) }
 
 take-entry-requires : tie.Need-take-entry-requires
 take-entry-requires c κs = search (number-room, number-few, needs)
@@ -32,6 +41,12 @@ same-length-2 c = search needs
 returns-2 : tie.Need-returns-2
 returns-2 c = search (opens-at, needs)
 
+same-length-3 : tie.Need-same-length-3
+same-length-3 c = search needs
+
+returns-3 : tie.Need-returns-3
+returns-3 c = search (opens-dirty, needs)
+
 pub open-as-spec : {M : Type 1} → statement M
 open-as-spec =
     tie.close
@@ -41,7 +56,12 @@ open-as-spec =
     enum-told
     same-length
     returns
-    cast-t12
+    cast-entry-at
+    entry-at-requires
+    is-zero-requires
+    cast-t18
     take-entry-requires
     same-length-2
-    returns-2)
+    returns-2
+    same-length-3
+    returns-3)

@@ -1,6 +1,7 @@
 -- `pool_reads::buffer_part` meets its contract.
 use borrow.Author.Needs.{needs}
 use Rattle.pool.specs.ReadLaws.{part-room, part-within, part-is, part-not}
+use Rattle.pool_reads.specs.Place.{part-there, part-refused}
 use Rattle.pool_reads.proofs.buffer_part.Statement.{statement}
 use Rattle.pool_reads.proofs.buffer_part.Tie as tie
 
@@ -35,10 +36,10 @@ slice-aggregate-result : tie.Need-slice-aggregate-result
 slice-aggregate-result c = search needs
 
 returns : tie.Need-returns
-returns c = search (part-is, needs)
+returns c = (search (part-is, needs), search (part-there, needs))
 
 returns-2 : tie.Need-returns-2
-returns-2 c = search (part-not, needs)
+returns-2 c = (search (part-not, needs), search (part-refused, needs))
 
 pub buffer-part-spec : {M : Type 1} → statement M
 buffer-part-spec =

@@ -1,6 +1,6 @@
 -- `ranges::column_in_range` meets its contract.
 use borrow.Author.Needs.{needs}
-use Rattle.ranges.specs.RangeLaws.{used-room, column-other, column-size, column-last}
+use Rattle.ranges.specs.RangeLaws.{column-other, column-size, column-last}
 use Rattle.ranges.proofs.column_in_range.Statement.{statement}
 use Rattle.ranges.proofs.column_in_range.Tie as tie
 
@@ -9,9 +9,6 @@ is-view-requires c κs = search needs
 
 between-requires : tie.Need-between-requires
 between-requires c κs = search needs
-
-get32-requires : tie.Need-get32-requires
-get32-requires c κs = search (used-room, needs)
 
 list-length-requires : tie.Need-list-length-requires
 list-length-requires c κs = search needs
@@ -34,7 +31,6 @@ column-in-range-spec =
     (tie.spec
     is-view-requires
     between-requires
-    get32-requires
     list-length-requires
     block-in-range-requires
     returns
