@@ -131,3 +131,21 @@ fn a_buffer_reads_back_until_nothing_holds_it() {
     coalescer.let_go(number).unwrap();
     assert_eq!(coalescer.read_buffer(number), Err(Refusal::NotThere));
 }
+
+/// 01: "Every call after set-up tests 1, then 14"; the limit, its setter and the counts "work on the state alone and refuse nothing".
+#[test]
+fn bytes_that_code_no_state_are_1_then_14_and_their_limit_can_be_set() {
+    // one column of a byte a row: T 3, R 5, Q 1, B 1, N 1
+    let mut memory = Memory::of(2 * (5 + 1), 0, 4 + 20 + 4 * 2 * 2);
+    memory.set_up(&1u32.to_le_bytes(), 3, 5, 1, 1, 1).unwrap();
+    (memory.state[28], memory.state[56]) = (2, 2); // the flags of the limit and of the column's open block
+    let mut longer = memory.clone();
+    longer.slots.push(0);
+    assert_eq!((longer.finish_buffered_batch(), longer.next_completed_batch(), longer.let_go(0)), (Err(1), Err(1), Err(1)));
+    assert_eq!((memory.finish_buffered_batch(), memory.next_completed_batch(), memory.let_go(0)), (Err(14), Err(14), Err(14)));
+    let mut wanted = memory.state.clone();
+    wanted[28..36].copy_from_slice(&[1, 0, 0, 0, 7, 0, 0, 0]);
+    assert_eq!((memory.biggest_coalesce_batch_size(), memory.set_biggest_coalesce_batch_size(Some(7))), (Some(0), Ok(())));
+    assert_eq!((memory.state == wanted, memory.biggest_coalesce_batch_size(), memory.is_empty()), (true, Some(7), true));
+    assert_eq!(memory.finish_buffered_batch(), Err(14)); // the open block's flag is as it was
+}

@@ -47,10 +47,11 @@ pub record SentPush (m : Memory) (b : Batch) (r : ℕ) (m′ : Memory) : Type 0 
 pub record SentLimit (flag rows : ℕ) (state : List ℕ) (r : ℕ) (state′ : List ℕ) : Type 0 where
   pub sent : (slots pool books : List ℕ) → Sent (memory state slots pool books) (limit (limitIn flag rows)) r (memory state′ slots pool books)
 
--- pw_new
+-- pw_new; the slots that it was lent are of bytes too
 pub record SentNew (a : Wanted) (kinds : List ℕ) (m : Memory) (r : ℕ) (m′ : Memory) : Type 0 where
   pub is : said r m′ ≡ created a kinds m
   pub bytes : Bytes (m′ .state)
+  pub slots : Bytes (m .slots)
 
 -- ---- a history
 

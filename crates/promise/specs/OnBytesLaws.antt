@@ -4,9 +4,10 @@ use mathlib.Core.Path.{_≡_, refl, sym, _∙_, ap}
 use mathlib.Core.Logic.{_≢_}
 use mathlib.Core.Bool.{Bool, true, false, _&&_, cond}
 use mathlib.Core.List.{List, [], _∷_, _++_}
+use mathlib.Core.Option.{some}
 use native.Mathlib.Omega.{arith}
 use native.Mathlib.Decide.{ℕ-discrete}
-use lib.ListN.{length}
+use lib.ListN.{length, getD}
 use lib.Dec.{eqb, ltb}
 use borrow.Author.Tests.{eq-eqb, ne-eqb}
 use Rattle.words.specs.WordLaws.{Bytes}
@@ -18,10 +19,10 @@ use Rattle.room.specs.RoomLaws.{number-few}
 use Rattle.state.specs.World.{World, world}
 use Rattle.state.specs.Layout.{rowsIn}
 use Rattle.state.specs.SlotLaws.{queued-in}
-use Rattle.state.specs.Rows.{Row, joined, frontSlot, queuedRows, bufferedRows}
+use Rattle.state.specs.Rows.{Row, null, joined, frontSlot, takenRows, queuedRows, bufferedRows}
 use Rattle.rules.specs.Batch.{Batch, batchRows}
 use Rattle.rules.specs.Steps.{inState, withLimit}
-use Rattle.rules.specs.Calls.{Answered, RegisterAnswer, Wanted, setUpCall, pushCall, finishCall, Dropped, dropCall, registerCall, letGoCall}
+use Rattle.rules.specs.Calls.{Answered, RegisterAnswer, Wanted, setUpCall, pushCall, finishCall, Dropped, dropCall, registerCall, letGoCall, isRow, readRow, readAs}
 use Rattle.rules.specs.CallLaws.{set-up-zero, set-up-done, drop-number, drop-empty, drop-front}
 use Rattle.rules.specs.RegisterLaws.{register-steps}
 use Rattle.push_safety.specs.TestedLaws.{bounds-say}
@@ -40,6 +41,7 @@ use Rattle.invariant.specs.Calls.SetUpAfter.{set-up-begins}
 use Rattle.history.specs.Call.{Call, push, finish, drop, register, letGo, limit, read, Did, ifDone, front, step, run}
 use Rattle.history.specs.CallLaws.{call-law}
 use Rattle.history.specs.History.{did, in-order}
+use Rattle.history.specs.Reads.{reads-taken}
 use Rattle.promise.specs.OnBytes.{
   HoldsWorld,
   Sent,
@@ -200,7 +202,9 @@ module _ {w : World} (g : Between w) where
 -- the rows and batches that the answers tell of are those of the step
 sent-accepted : (m : Memory) (c : Call) {r : ℕ} {m′ : Memory} {w : World} → Between w → HoldsWorld m w → Sent m c r m′ → acceptedBy m c r ≡ step w c .accepted
 unfolding step
-sent-accepted m (push b bytes) g h s = rw (sent-answers m (push b bytes) g h s, h .is)
+sent-accepted m (push b bytes) {w = w} g h s =
+    ap (λ (n : ℕ). ifDone n (batchRows (worldIn m) b)) (sent-answers m (push b bytes) g h s)
+    ∙ ap (λ (v : World). ifDone (pushCall w b .number) (batchRows v b)) (h .is)
 sent-accepted m finish g h s = refl
 sent-accepted m drop g h s = refl
 sent-accepted m (register bytes capacity) g h s = refl
@@ -212,7 +216,11 @@ sent-taken : (m : Memory) (c : Call) {r : ℕ} {m′ : Memory} {w : World} → B
 unfolding step
 sent-taken m (push b bytes) g h s = refl
 sent-taken m finish g h s = refl
-sent-taken m drop g h s = rw (drop-answer g h s .0, drop-answer g h s .1, drop-few g .1, h .is)
+sent-taken m drop {r = r} {w = w} g h s =
+    ap (λ (n : ℕ). front (worldIn m) n (eqb (lower r) 0)) (drop-answer g h s .0)
+    ∙ ap (λ (v : ℕ). front (worldIn m) (dropCall w .number) (eqb v 0)) (drop-answer g h s .1)
+    ∙ ap (front (worldIn m) (dropCall w .number)) (drop-few g .1)
+    ∙ ap (λ (v : World). front v (dropCall w .number) (eqb (w .state .queued) 0)) (h .is)
 sent-taken m (register bytes capacity) g h s = refl
 sent-taken m (letGo k) g h s = refl
 sent-taken m (limit l) g h s = refl
@@ -279,3 +287,7 @@ module _ (a : Wanted) (kinds : List ℕ) (m : Memory) {r : ℕ} {m₁ : Memory} 
   pub bytes-in-order : y .accepted ≡ joined (y .taken) ++ (queuedRows (worldIn (y .memory)) ++ bufferedRows (worldIn (y .memory)))
   bytes-in-order =
       rw (bytes-ran .accepted-are, bytes-ran .taken-are, bytes-ran .holds .is) (in-order a (m .slots) (m .pool) (m .books) set-up-is cs)
+
+  -- a row read there is that row of the batch that a drop would take; `sent::read_row` has its words
+  pub bytes-read : (c i : ℕ) → isRow (worldIn (y .memory)) c i ≡ true → readAs (worldIn (y .memory)) (readRow (worldIn (y .memory)) c i) ≡ some (getD (getD (takenRows (worldIn (y .memory))) i []) c null)
+  bytes-read c i = rw (bytes-ran .holds .is) (reads-taken a (m .slots) (m .pool) (m .books) set-up-is (p .slots) cs c i)

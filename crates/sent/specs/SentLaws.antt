@@ -19,8 +19,8 @@ use Rattle.sent.specs.Reads.{ReadsRow, ReadsBuffer, ReadsRefusal, ReadsS
 
 -- ---- calls that change memory
 
-pub new-sent : {a : Wanted} {kinds : List ℕ} {m : Memory} {r : ℕ} {m′ : Memory} → said r m′ ≡ created a kinds m → Bytes (m′ .state) → SentNew a kinds m r m′
-new-sent p is = record { is = p; bytes = is }
+pub new-sent : {a : Wanted} {kinds : List ℕ} {m : Memory} {r : ℕ} {m′ : Memory} → said r m′ ≡ created a kinds m → Bytes (m′ .state) → Bytes (m .slots) → SentNew a kinds m r m′
+new-sent p is at = record { is = p; bytes = is; slots = at }
 
 pub push-sent : {m : Memory} {b : Batch} {r : ℕ} {m′ : Memory} → said r m′ ≡ called number (pushing b) m → Bytes (b .body) → Bytes (m′ .state) → SentPush m b r m′
 push-sent p d is = record { body = record { body = d }; sent = sent-push (record { body = d }) p is }
