@@ -1,9 +1,11 @@
 -- Push, step by step: 01's four steps, queueing whole, finishing; and what a push gives.
 use Prim.Native.Nat.{ℕ, zero, suc, _+_, _-_}
 use mathlib.Core.Bool.{Bool, true, false, cond}
+use mathlib.Core.List.{[], _∷_}
 use mathlib.Core.Option.{Option, none, some}
 use lib.Dec.{ltb, leb, eqb}
 use Rattle.search.specs.Every.{every}
+use Rattle.search.specs.InOrder.{test, inOrder}
 use Rattle.state.specs.declared.Limit.{Limit}
 use Rattle.state.specs.World.{World}
 use Rattle.state.specs.Layout.{isViews, listLength}
@@ -38,11 +40,11 @@ columnsWhole w b = each (w .state .columns) (λ v c. columnWhole v b c) w
 -- 01: "Queueing whole tests 9, then 10 by columns."
 unfoldable pub queuedWhole : World → Batch → Res
 queuedWhole w b =
-    cond (ltb (w .state .queued) (w .state .queue))
-    (cond (every (λ c. leb (listLength w (filling w) c + recordOf b c .count) (w .state .lists)) (w .state .columns))
+    inOrder
+    (test (ltb (w .state .queued) (w .state .queue)) (refuse 9)
+    ∷ test (every (λ c. leb (listLength w (filling w) c + recordOf b c .count) (w .state .lists)) (w .state .columns)) (refuse 10)
+    ∷ [])
     (ok (queueing (columnsWhole w b) (b .rows)))
-    (refuse 10))
-    (refuse 9)
 
 -- n rows from row `from` on, copied and buffered
 unfoldable pub partTaken : World → World → Batch → ℕ → ℕ → Res
