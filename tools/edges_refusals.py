@@ -152,7 +152,7 @@ def older_state(x):
 def records(x):
     x.note('-- 2, 3: record bytes, rows over R')
     data = text(100)
-    x.set_up(t=2, r=3, kinds=(UTF8, U8))
+    x.set_up(t=2, r=3, kinds=(UTF8, U8), p=65536)
     x.register(data)
     good = [column(views(data, [(0, 20)]), [1], 0, [0]), column(plain(1, U8), [1], 0)]
 
@@ -174,12 +174,14 @@ def records(x):
             return r, b
         return edit
 
-    x.note('-- 4: a record of the wrong kind or against its rules')
+    x.note('-- 4: a record of the wrong kind or against its rules (the fourth keeps them: no validity, and first bit 0)')
     for at, value in ((0, 19), (24, 1), (28, 1), (8, NONE), (32 + 20, 1)):
         x.push(1, *good, edit=word(at, value))
     x.push(1, column(views(data, [(0, 2)])), column(plain(1, U8)), edit=word(12, 1))
     x.push(1, column(views(data, [(0, 2)])), column(plain(1, U8)), edit=word(16, 1))
-    x.note('-- 5: values, bitmap or list outside the body, and just inside')
+    x.drop()
+    x.drop()
+    x.note('-- 5: values, bitmap or list outside the body; just inside it is 6 or 7 that refuses, since other bytes are read, or none')
     size = len(batch(1, x.kinds, good)[1])
     for at, inside in ((4, size - 16), (8, size - 1), (16, size - 4)):
         for value in (inside + 1, inside, NONE - 1):
@@ -191,7 +193,7 @@ def records(x):
     x.note('-- 5 in more than 32 bits: a second row\'s bit 4,294,967,296, a list of 1,073,741,824 numbers')
     x.push(2, column(views(data, [(0, 20)] * 2), [1, 1], 0, [0]), column(plain(2, U8)), edit=word(12, NONE))
     x.push(1, *good, edit=word(20, 1 << 30))
-    x.note('-- 6: a listed buffer that the caller does not hold')
+    x.note('-- 6: a listed buffer that the caller does not hold (the first is held)')
     for number in (0, 1, 8, NONE):
         x.push(1, column(views(data, [(0, 2)]), listed=[number]), column(plain(1, U8)))
     x.let_go(0)

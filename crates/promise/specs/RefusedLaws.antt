@@ -70,6 +70,17 @@ register-value w bytes capacity = go (ℕ-discrete (tested w) 0)
 
 -- ---- one call
 
+fits : (f : World → Given) (m : Memory) → ((w : World) → f w .value < 2 ^ 32) → valueOf f m < 2 ^ 32
+unfolding valueOf
+fits f m h = go (eqb (decoded (m .state) .number) 0)
+  where
+    go : (x : Bool) → cond x (f (worldIn m) .value) 0 < 2 ^ 32
+    go true = h (worldIn m)
+    go false = omega arith
+
+upper-none : (n v : ℕ) {r : ℕ} → r ≡ pair n v → v < 2 ^ 32 → n ≡ 0 → upper r ≡ 0
+upper-none n v e h z = omega arith
+
 module _ (f : World → Given) (q : Quiet f) (m : Memory) {r : ℕ} {m′ : Memory} where
   -- an answer of one number
   number-nothing : said r m′ ≡ called number f m → r ≢ 0 → m′ ≡ m
@@ -78,21 +89,10 @@ module _ (f : World → Given) (q : Quiet f) (m : Memory) {r : ℕ} {m′ : Memo
       ∙ refused-nothing f m number q (λ z. d (ap (λ (t : Said). t .answer) p ∙ answer-number f m ∙ z))
 
   -- of two
-  fits : ((w : World) → f w .value < 2 ^ 32) → valueOf f m < 2 ^ 32
-  unfolding valueOf
-  fits h = go (eqb (decoded (m .state) .number) 0)
-    where
-      go : (x : Bool) → cond x (f (worldIn m) .value) 0 < 2 ^ 32
-      go true = h (worldIn m)
-      go false = omega arith
-
-  upper-none : (n v : ℕ) → r ≡ pair n v → v < 2 ^ 32 → n ≡ 0 → upper r ≡ 0
-  upper-none n v e h z = omega arith
-
   both-nothing : ((w : World) → f w .value < 2 ^ 32) → said r m′ ≡ called both f m → upper r ≢ 0 → m′ ≡ m
   both-nothing h p d =
       ap (λ (t : Said). t .memory) p
-      ∙ refused-nothing f m both q (λ z. d (upper-none (numberOf f m) (valueOf f m) (ap (λ (t : Said). t .answer) p ∙ answer-both f m) (fits h) z))
+      ∙ refused-nothing f m both q (λ z. d (upper-none (numberOf f m) (valueOf f m) (ap (λ (t : Said). t .answer) p ∙ answer-both f m) (fits f m h) z))
 
 limit-nothing : (flag rows : ℕ) (b : List ℕ) {r : ℕ} {b′ : List ℕ} → told r b′ ≡ limitSet flag rows b → r ≢ 0 → b′ ≡ b
 unfolding limitSet

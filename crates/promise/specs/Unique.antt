@@ -35,8 +35,8 @@ pub same-number : {r q f : ℕ} → r ≡ f → q ≡ f → r ≡ q
 same-number = same-outcome
 
 -- push_batch, in every world: no premise
-pub same-push : {w : World} {b : Batch} {r q : Step} {slots slots′ pool pool′ books books′ : List ℕ} → answered r slots pool books ≡ calls.pushCall w b → answered q slots′ pool′ books′ ≡ calls.pushCall w b → answered r slots pool books ≡ answered q slots′ pool′ books′
-same-push = same-outcome
+pub same-push : (w : World) (b : Batch) {r q : Step} {slots slots′ pool pool′ books books′ : List ℕ} → answered r slots pool books ≡ calls.pushCall w b → answered q slots′ pool′ books′ ≡ calls.pushCall w b → answered r slots pool books ≡ answered q slots′ pool′ books′
+same-push w b = same-outcome
 
 -- ---- part by part
 

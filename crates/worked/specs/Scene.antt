@@ -1,6 +1,5 @@
 -- The worlds and batches of the worked examples: small courts, set up by the definitions and pushed to by them.
 use Prim.Native.Nat.{ℕ, zero, suc, _+_, _/_, _%_}
-use mathlib.Core.Bool.{Bool, true, false}
 use mathlib.Core.List.{List, [], _∷_, _++_}
 use mathlib.Core.Option.{Option, none, some}
 use lib.ListN.{length, replicate}
@@ -16,8 +15,8 @@ use Rattle.state.specs.Layout.{slotsLength, booksLength, listLength}
 use Rattle.state.specs.Rows.{Cell, null, value, Row, upTo}
 use Rattle.rules.specs.Batch.{Batch}
 use Rattle.rules.specs.Steps.{inState, inBooks, buffering, withLimit, withColumn}
-use Rattle.rules.specs.Views.{hasBlock, blockNumber}
-use Rattle.rules.specs.Calls.{Answered, Wanted, newState, setUpCall, pushCall}
+use Rattle.rules.specs.Views.{partCopied}
+use Rattle.rules.specs.Calls.{Answered, orOld, Wanted, newState, setUpCall, pushCall}
 
 -- a word as its four bytes
 unfoldable pub wordBytes : ℕ → List ℕ
@@ -113,25 +112,38 @@ viewed number lengths =
       body = wordBytes number ++ wordsBytes (viewWords 0 lengths);
     }
 
--- what a push of views leaves: its answer, the kept block size, the length of slot 0's list, whether a block is open and its number; then
--- start, capacity and length of each buffer in use
-abbrev pub flag : Bool → ℕ
-flag true = 1
-flag false = 0
+-- where a buffer lies, and how far it is filled
+pub record Extent : Type 0 where
+  pub start : ℕ
+  pub capacity : ℕ
+  pub filled : ℕ
 
-unfoldable pub figures : List ℕ → ℕ → List ℕ
-figures books zero = []
-figures books (suc i) =
-    figures books i ++ (entryOf books i .start ∷ entryOf books i .capacity .0 ∷ entryOf books i .length .0 ∷ [])
+abbrev pub extent : ℕ → ℕ → ℕ → Extent
+extent start capacity filled = record { start = start; capacity = capacity; filled = filled }
 
-unfoldable pub left : Answered → List ℕ
+-- what a push of views leaves: its answer, the block size that the column keeps, how many buffers slot 0 lists, the number of the open block
+-- where there is one, and each buffer in use
+pub record Left : Type 0 where
+  pub answer : ℕ
+  pub kept : ℕ
+  pub listed : ℕ
+  pub block : Option ℕ
+  pub buffers : List Extent
+
+abbrev pub numberIn : OpenBlock → Option ℕ
+numberIn OpenBlock.Closed = none
+numberIn (OpenBlock.Number k) = some (k .0)
+
+unfoldable pub left : Answered → Left
 left a =
-    a .number
-    ∷ columnOf (a .world .state) 0 .source .current .0
-    ∷ listLength (a .world) 0 0
-    ∷ flag (hasBlock (columnOf (a .world .state) 0 .block))
-    ∷ blockNumber (columnOf (a .world .state) 0 .block)
-    ∷ figures (a .world .books) (usedOf (a .world .books))
+    let books = a .world .books in
+    record {
+      answer = a .number;
+      kept = columnOf (a .world .state) 0 .source .current .0;
+      listed = listLength (a .world) 0 0;
+      block = numberIn (columnOf (a .world .state) 0 .block);
+      buffers = upTo (usedOf books) (λ i. extent (entryOf books i .start) (entryOf books i .capacity .0) (entryOf books i .length .0));
+    }
 
 -- W10: a push of one view of 100 bytes whose list has one buffer of the capacity given, in a pool of so many bytes
 unfoldable pub twice : ℕ → ℕ → Answered
@@ -142,6 +154,28 @@ twice capacity pool = pushCall (holding (viewCourt pool) 0 0 capacity 100) (view
 unfoldable pub squeezed : Answered
 squeezed =
     pushCall (buffering (filledBlock (holding (viewCourt 24876) 1 8192 300 130) 0 0 8192 8092) 1) (viewed 1 (60 ∷ 50 ∷ 20 ∷ []))
+
+-- what is left is less than ideal: W11's open block and row buffered; the first two of four views, of 60, 50, 8,145 and 8,145 bytes of a buffer of zeros
+-- that stands in the list five times (ideal 16,400, actual 40,960). The walk copies 60 bytes, so 16,340 are left. (The part alone: the other
+-- two views would be 16,290 bytes to copy, too many to compute with.)
+unfoldable pub zeroWords : List ℕ → List ℕ
+zeroWords [] = []
+zeroWords (n ∷ ns) = n ∷ 0 ∷ 0 ∷ 0 ∷ zeroWords ns
+
+unfoldable pub fiveTimes : ℕ → List ℕ → Batch
+fiveTimes number lengths =
+    record {
+      rows = length lengths;
+      records = wordsBytes (18 ∷ 20 ∷ 4294967295 ∷ 0 ∷ 0 ∷ 5 ∷ 0 ∷ 0 ∷ []);
+      body = wordsBytes (number ∷ number ∷ number ∷ number ∷ number ∷ zeroWords lengths);
+    }
+
+unfoldable pub lessThanIdeal : Answered
+lessThanIdeal =
+    let u = viewCourt 32768 in
+    let v = inBooks u (taken (u .books) 1 (entryAt 8192 8192 8192 1 0)) in
+    let w = buffering (filledBlock v 0 0 8192 8092) 1 in
+    orOld w (partCopied w w (fiveTimes 1 (60 ∷ 50 ∷ 8145 ∷ 8145 ∷ [])) 0 2)
 
 -- the last block is empty: seven rows buffered of eight, an open block with a rest of 20; a push of two views of 13 bytes, of which the
 -- first takes the slot's last row. Ideal is 26, of the whole push, so the block is walked and closed, and a new one opened. (The open
