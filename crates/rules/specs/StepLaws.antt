@@ -1,5 +1,5 @@
 -- The steps of a push, one law for each way out: what is known there, and the result.
-use Prim.Native.Nat.{ℕ, suc, _+_, _-_, _≤_, _<_}
+use Prim.Native.Nat.{ℕ, _+_, _≤_, _<_}
 use mathlib.Core.Path.{_≡_}
 use mathlib.Core.Logic.{_≢_}
 use mathlib.Core.Bool.{true, false}
@@ -11,7 +11,9 @@ use Rattle.state.specs.Layout.{listLength}
 use Rattle.rules.specs.Batch.{Batch, recordOf}
 use Rattle.rules.specs.Steps.{ok, refuse, bind, queueing}
 use Rattle.rules.specs.Views.{filling, closed, blockOpened, listAttached, viewsRaised, partAttached}
-use Rattle.rules.specs.Push.{allClosed, finished, columnsWhole, queuedWhole, partTaken, space, ifFull, coalesced, overLimit, stepped}
+use Rattle.rules.specs.Push.{allClosed, finished, columnsWhole, queuedWhole, ifFull, overLimit, stepped}
+use Rattle.rules.specs.Turns.{coalesced}
+use Rattle.rules.specs.PushLaws.{coalesced-is}
 
 module _ (w : World) where
   -- ---- finishing
@@ -74,23 +76,12 @@ module _ (w : World) where
           every-is (λ c. leb (listLength w (filling w) c + recordOf b c .count) (w .state .lists)) (w .state .columns) (λ c m. le-leb (listLength w (filling w) c + recordOf b c .count) (w .state .lists) (h c m)),
         )
 
--- ---- coalescing: a turn of step 3, and step 4
-
-module _ (turns : ℕ) (w₀ w : World) (b : Batch) (from : ℕ) where
-  pub coalesced-turn : space w < b .rows - from → coalesced (suc turns) w₀ w b from ≡ bind (bind (partTaken w₀ w b from (space w)) finished) (λ v. coalesced turns w₀ v b (from + space w))
-  unfolding coalesced
-  coalesced-turn l = rw (lt-ltb (space w) (b .rows - from) l, coalesced)
-
-  pub coalesced-last : b .rows - from ≤ space w → coalesced (suc turns) w₀ w b from ≡ bind (partTaken w₀ w b from (b .rows - from)) ifFull
-  unfolding coalesced
-  coalesced-last l = rw (le-ltb (space w) (b .rows - from) l, coalesced)
-
 -- ---- step 2
 
 module _ (w : World) (b : Batch) where
   pub stepped-small : overLimit (w .state .limit) (b .rows) ≡ false → stepped w b ≡ coalesced (b .rows) w w b 0
   unfolding stepped
-  stepped-small p = rw (p, stepped)
+  stepped-small p = rw (p, stepped) (coalesced-is w b)
 
   pub stepped-whole : overLimit (w .state .limit) (b .rows) ≡ true → w .state .buffered .0 ≡ 0 → stepped w b ≡ queuedWhole w b
   unfolding stepped
@@ -102,4 +93,4 @@ module _ (w : World) (b : Batch) where
 
   pub stepped-on : overLimit (w .state .limit) (b .rows) ≡ true → w .state .buffered .0 ≢ 0 → overLimit (w .state .limit) (w .state .buffered .0) ≡ false → stepped w b ≡ coalesced (b .rows) w w b 0
   unfolding stepped
-  stepped-on p q r = rw (p, ne-eqb (w .state .buffered .0) 0 q, r, stepped)
+  stepped-on p q r = rw (p, ne-eqb (w .state .buffered .0) 0 q, r, stepped) (coalesced-is w b)
