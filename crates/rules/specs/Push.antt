@@ -14,7 +14,7 @@ use Rattle.rules.specs.declared.Fault.{Fault}
 use Rattle.rules.specs.Checks.{batchFault}
 use Rattle.rules.specs.Ranges.{tested}
 use Rattle.rules.specs.Steps.{Res, ok, refuse, bind, each, buffering, queueing}
-use Rattle.rules.specs.Views.{filling, closed, bitsCopied, valuesCopied, listAttached, partCopied}
+use Rattle.rules.specs.Views.{span, filling, closed, bitsCopied, valuesCopied, listAttached, partCopied}
 
 -- the open block of each column of views joins its list. 01: "each column's open block joins its list and the slot is queued"
 unfoldable pub allClosed : World → World
@@ -32,7 +32,7 @@ finished w =
 -- or closed for it."
 unfoldable pub columnWhole : World → Batch → ℕ → World
 columnWhole w b c =
-    listAttached (valuesCopied (bitsCopied w b c (filling w) 0 0 (b .rows)) b c (filling w) 0 0 (b .rows)) b c
+    listAttached (valuesCopied (bitsCopied w b (filling w) (span c 0 0 (b .rows))) b (filling w) (span c 0 0 (b .rows))) b c
 
 unfoldable pub columnsWhole : World → Batch → World
 columnsWhole w b = each (w .state .columns) (λ v c. columnWhole v b c) w

@@ -10,7 +10,7 @@ use Rattle.state.specs.World.{World}
 use Rattle.state.specs.Layout.{listLength}
 use Rattle.rules.specs.Batch.{Batch, recordOf}
 use Rattle.rules.specs.Steps.{ok, refuse, bind, queueing}
-use Rattle.rules.specs.Views.{filling, closed, blockOpened, listAttached, viewsRaised, partAttached}
+use Rattle.rules.specs.Views.{span, filling, closed, blockOpened, listAttached, viewsRaised, partAttached}
 use Rattle.rules.specs.Push.{allClosed, finished, columnsWhole, queuedWhole, ifFull, overLimit, stepped}
 use Rattle.rules.specs.Turns.{coalesced}
 use Rattle.rules.specs.PushLaws.{coalesced-is}
@@ -45,11 +45,11 @@ module _ (w : World) where
   opened-ten c min l = rw (lt-leb (listLength w (filling w) c + 1) (w .state .lists) l)
 
   module _ (b : Batch) (c at from n : ℕ) where
-    pub attached-ten : w .state .lists < listLength (closed w c) (filling w) c + recordOf b c .count → partAttached w b c at from n ≡ refuse 10
+    pub attached-ten : w .state .lists < listLength (closed w c) (filling w) c + recordOf b c .count → partAttached w b (span c at from n) ≡ refuse 10
     unfolding partAttached
     attached-ten l = rw (lt-leb (listLength (closed w c) (filling w) c + recordOf b c .count) (w .state .lists) l)
 
-    pub attached-done : listLength (closed w c) (filling w) c + recordOf b c .count ≤ w .state .lists → partAttached w b c at from n ≡ ok (viewsRaised (listAttached (closed w c) b c) b c (listLength (closed w c) (filling w) c) at from n)
+    pub attached-done : listLength (closed w c) (filling w) c + recordOf b c .count ≤ w .state .lists → partAttached w b (span c at from n) ≡ ok (viewsRaised (listAttached (closed w c) b c) b (listLength (closed w c) (filling w) c) (span c at from n))
     unfolding partAttached
     attached-done l = rw (le-leb (listLength (closed w c) (filling w) c + recordOf b c .count) (w .state .lists) l)
 
