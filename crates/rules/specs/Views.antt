@@ -182,12 +182,8 @@ partCompacted w b (span c at from n) =
 unfoldable pub listAttached : World → Batch → ℕ → World
 listAttached w b c =
     counting
-    (record {
-      state = w .state;
-      slots = lay (listPlace (w .state) (filling w) c + 4 * listLength w (filling w) c) (listOf b c) (w .slots);
-      pool = w .pool;
-      books = overList listedOne (w .books) (listOf b c) (recordOf b c .count);
-    })
+    (inBooks (inSlots w (lay (listPlace (w .state) (filling w) c + 4 * listLength w (filling w) c) (listOf b c) (w .slots)))
+    (overList listedOne (w .books) (listOf b c) (recordOf b c .count)))
     (filling w)
     (c + 1)
     (listLength w (filling w) c + recordOf b c .count)
