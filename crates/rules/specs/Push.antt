@@ -57,6 +57,7 @@ fullParts zero target buffered left = []
 fullParts (suc turns) target buffered left =
     cond (ltb (target - buffered) left) ((target - buffered) ∷ fullParts turns target 0 (left - (target - buffered))) []
 
+-- "if buffered = T, finish"
 unfoldable pub ifFull : World → Res
 ifFull w = cond (eqb (w .state .buffered .0) (w .state .target .0)) (finished w) (ok w)
 
@@ -70,12 +71,13 @@ inParts (n ∷ ns) w₀ w b from = bind (bind (partTaken w₀ w b from n) finish
 unfoldable pub cutUp : World → Batch → Res
 cutUp w b = inParts (fullParts (b .rows) (w .state .target .0) (w .state .buffered .0) (b .rows)) w w b 0
 
--- step 2: "Limit set and rows > limit (001): with 0 buffered, queue the batch whole; with buffered > limit, finish the buffered rows, then
--- queue it whole; else go on."
+-- n rows are more than the limit, where one is set
 abbrev pub overLimit : Limit → ℕ → Bool
 overLimit Limit.Unset n = false
 overLimit (Limit.Rows limit) n = ltb (limit .0) n
 
+-- step 2: "Limit set and rows > limit (001): with 0 buffered, queue the batch whole; with buffered > limit, finish the buffered rows, then
+-- queue it whole; else go on."
 unfoldable pub stepped : World → Batch → Res
 stepped w b =
     cond (overLimit (w .state .limit) (b .rows))
@@ -84,12 +86,13 @@ stepped w b =
     (cutUp w b)))
     (cutUp w b)
 
--- 01: "Order for a push: 1, 14, then step 1, then 2, 3, then per column 4, 5, 6, and 7 by rows. Room is worked out along the push
--- steps; the first step without it names the number."; step 1: "0 rows: done, nothing changes, before any batch check."
+-- a fault of the batch before the result of the steps
 abbrev pub orFault : Option Fault → Res → Res
 orFault none r = r
 orFault (some f) r = refuse (f .number)
 
+-- 01: "Order for a push: 1, 14, then step 1, then 2, 3, then per column 4, 5, 6, and 7 by rows. Room is worked out along the push
+-- steps; the first step without it names the number."; step 1: "0 rows: done, nothing changes, before any batch check."
 unfoldable pub pushed : World → Batch → Res
 pushed w b =
     inOrder (test (eqb (tested w) 0) (refuse (tested w)) ∷ test (not (eqb (b .rows) 0)) (ok w) ∷ [])
