@@ -16,7 +16,7 @@ use Rattle.rules.specs.declared.ColumnRecord.{ColumnRecord}
 use Rattle.rules.specs.Batch.{Batch, batch, recordOf, valuePlace, rowView}
 use Rattle.rules.specs.Copies.{viewsAt, viewsPut}
 use Rattle.rules.specs.Steps.{ok, refuse}
-use Rattle.rules.specs.Views.{closed, viewsFrom, listAttached, viewsRaised, partAttached}
+use Rattle.rules.specs.Views.{span, closed, viewsFrom, listAttached, viewsRaised, partAttached}
 use Rattle.state.specs.declared.BatchCoalescer.{BatchCoalescer}
 use Rattle.state.specs.World.{World, world}
 use Rattle.state.specs.Layout.{widthOf, cellPlace, booksLength, listLength}
@@ -37,7 +37,7 @@ use Rattle.in_progress.specs.AlongLaws.{views-on, closed-along}
 -- ---- attach_list
 
 module _ (s : BatchCoalescer) (slots pool books : List ℕ) (b : Batch) (p : Rows) {f : ℕ → View} {to : ℕ} (e : viewsFrom (world s slots pool books) b (p .column) (p .from) ≡ f) (q : cellPlace s (s .place) (p .column) (p .at) ≡ to) where
-  raise-views : (k : ℕ) {t : List ℕ} → t ≡ viewsPut (λ i. raisedBy k (f i)) slots to (p .count) → viewsRaised (world s slots pool books) b (p .column) k (p .at) (p .from) (p .count) ≡ world s t pool books
+  raise-views : (k : ℕ) {t : List ℕ} → t ≡ viewsPut (λ i. raisedBy k (f i)) slots to (p .count) → viewsRaised (world s slots pool books) b k (span (p .column) (p .at) (p .from) (p .count)) ≡ world s t pool books
   unfolding viewsRaised
   raise-views k u =
       ap (λ (g : ℕ → View). world s (viewsPut (λ i. raisedBy k (g i)) slots (cellPlace s (s .place) (p .column) (p .at)) (p .count)) pool books) e
@@ -139,11 +139,11 @@ module _ {s : BatchCoalescer} {slots books records body : List ℕ} {rows : ℕ}
       pub raise-done : {slots′ slots″ books′ : List ℕ} → Attaches s slots books d (p .column) slots′ books′ → slots″ ≡ viewsPut (λ i. raisedBy k (viewsAt body (r .values + p .from * 16) i)) slots′ (p .place + p .at * 16) (p .count) → RaisesPart s slots books d k p slots″ books′
       raise-done {slots′} {slots″} {books′} t u = record { is = λ y. go y }
         where
-          views : (y : List ℕ) → viewsRaised (world s slots′ y books′) d (p .column) k (p .at) (p .from) (p .count) ≡ world s slots″ y books′
+          views : (y : List ℕ) → viewsRaised (world s slots′ y books′) d k (span (p .column) (p .at) (p .from) (p .count)) ≡ world s slots″ y books′
           views y = raise-views s slots′ y books′ d p (views-at (world s slots′ y books′) wide) cell-at k u
 
-          go : (y : List ℕ) → viewsRaised (listAttached (world s slots y books) d (p .column)) d (p .column) k (p .at) (p .from) (p .count) ≡ world s slots″ y books′
-          go y = ap (λ (w : World). viewsRaised w d (p .column) k (p .at) (p .from) (p .count)) (t .is y) ∙ views y
+          go : (y : List ℕ) → viewsRaised (listAttached (world s slots y books) d (p .column)) d k (span (p .column) (p .at) (p .from) (p .count)) ≡ world s slots″ y books′
+          go y = ap (λ (w : World). viewsRaised w d k (span (p .column) (p .at) (p .from) (p .count))) (t .is y) ∙ views y
 
 -- ---- attach
 
@@ -160,7 +160,7 @@ module _ {s : BatchCoalescer} {slots books records body : List ℕ} {rows : ℕ}
   counted = sym (ap (λ (z : ColumnRecord). z .count) (any-record a))
 
   -- 10
-  refuses : s .lists < n + r .count → (pool : List ℕ) → length pool ≡ s .pool .0 → partAttached (world s slots pool books) g (p .column) (p .at) (p .from) (p .count) ≡ refuse 10
+  refuses : s .lists < n + r .count → (pool : List ℕ) → length pool ≡ s .pool .0 → partAttached (world s slots pool books) g (span (p .column) (p .at) (p .from) (p .count)) ≡ refuse 10
   unfolding partAttached
   refuses h pool l = rw (closed-list pool l, counted, lt-leb (n + r .count) (s .lists) h)
 
@@ -168,7 +168,7 @@ module _ {s : BatchCoalescer} {slots books records body : List ℕ} {rows : ℕ}
   attach-full h = record { steps = λ pool l. steps-refused (λ z. omega arith) (refuses h pool l) }
 
   module _ (h : n + r .count ≤ s .lists) {t : BatchCoalescer} {slots′ books′ : List ℕ} (c : ClosesBlock s slots books (p .column) t slots′ books′) where
-    attaches : (pool : List ℕ) → length pool ≡ s .pool .0 → partAttached (world s slots pool books) g (p .column) (p .at) (p .from) (p .count) ≡ ok (viewsRaised (listAttached (world t slots′ pool books′) g (p .column)) g (p .column) n (p .at) (p .from) (p .count))
+    attaches : (pool : List ℕ) → length pool ≡ s .pool .0 → partAttached (world s slots pool books) g (span (p .column) (p .at) (p .from) (p .count)) ≡ ok (viewsRaised (listAttached (world t slots′ pool books′) g (p .column)) g n (span (p .column) (p .at) (p .from) (p .count)))
     unfolding partAttached
     attaches pool l = rw (closed-list pool l, counted, le-leb (n + r .count) (s .lists) h, c .is pool)
 

@@ -17,12 +17,7 @@ use Rattle.columns.specs.SourceLaws.{source-way, source-ideal}
 use Rattle.push_safety.specs.Run.{Run, Readable}
 use Rattle.in_progress.specs.Part.{Part, Decided, copiedBy}
 
--- n rows of column c of the batch from row `from` on, behind those buffered
-abbrev pub rowsOf : World → ℕ → ℕ → ℕ → Rows
-rowsOf w c from n =
-    record { column = c; place = valuesPlace (w .state) (w .state .place) c; at = w .state .buffered .0; from = from; count = n }
-
--- they may be copied
+-- rows that may be copied
 pub part-of : {w : World} {b : Batch} {r : ColumnRecord} {p : Rows} → Run w → Readable w b → p .column < w .state .columns → r ≡ recordOf b (p .column) → p .place ≡ valuesPlace (w .state) (w .state .place) (p .column) → p .from + p .count ≤ b .rows → p .at + p .count ≤ w .state .rows .0 → Part w b r p
 part-of run reads h e q t m =
     record { run = run; reads = reads; column = h; recorded = e; placed = q; there = t; room = m }

@@ -17,7 +17,7 @@ use Rattle.rules.specs.declared.ColumnRecord.{ColumnRecord}
 use Rattle.rules.specs.Batch.{Batch, batch, valuePlace, ideal}
 use Rattle.rules.specs.Copies.{viewsAt, longTo}
 use Rattle.rules.specs.Steps.{ok}
-use Rattle.rules.specs.Views.{hasBlock, isOpen, openRest, closed, blockOpened, partCompacted}
+use Rattle.rules.specs.Views.{span, hasBlock, isOpen, openRest, closed, blockOpened, partCompacted}
 use Rattle.state.specs.declared.BatchCoalescer.{BatchCoalescer}
 use Rattle.state.specs.declared.Column.{Column}
 use Rattle.state.specs.declared.OpenBlock.{OpenBlock}
@@ -166,11 +166,11 @@ module _ {s : BatchCoalescer} {slots pool books : List ℕ} {b : Batch} {r : Col
   pub compact-long : longOf u b p ≤ n
   compact-long = omega (arith, long-ideal x)
 
-  none-open : block .block ≡ OpenBlock.Closed → partCompacted u b (p .column) (p .at) (p .from) (p .count) ≡ openedFor u b n p
+  none-open : block .block ≡ OpenBlock.Closed → partCompacted u b (span (p .column) (p .at) (p .from) (p .count)) ≡ openedFor u b n p
   unfolding partCompacted openedFor compacting
   none-open q = rw (open-is q, i)
 
-  pub compact-new : {q : Step} {slots′ pool′ books′ : List ℕ} → block .block ≡ OpenBlock.Closed → Steps (openedFor u b n p) q slots′ pool′ books′ → Steps (partCompacted u b (p .column) (p .at) (p .from) (p .count)) q slots′ pool′ books′
+  pub compact-new : {q : Step} {slots′ pool′ books′ : List ℕ} → block .block ≡ OpenBlock.Closed → Steps (openedFor u b n p) q slots′ pool′ books′ → Steps (partCompacted u b (span (p .column) (p .at) (p .from) (p .count))) q slots′ pool′ books′
   compact-new q z = rw (none-open q) z
 
   module _ {k : BufferNumber} (q : block .block ≡ OpenBlock.Number k) where
@@ -192,16 +192,16 @@ module _ {s : BatchCoalescer} {slots pool books : List ℕ} {b : Batch} {r : Col
       pub compact-walks : rest < n → Walks u b r p n rest
       compact-walks h = record { part = x; is-open = open-is q; ideal-is = i; rest-is = rest-at; short = h }
 
-      fits-open : n ≤ rest → partCompacted u b (p .column) (p .at) (p .from) (p .count) ≡ compacting u b p
+      fits-open : n ≤ rest → partCompacted u b (span (p .column) (p .at) (p .from) (p .count)) ≡ compacting u b p
       unfolding partCompacted compacting
       fits-open h = rw (open-is q, ← i, ← rest-at, le-leb n rest h)
 
-      splits : rest < n → partCompacted u b (p .column) (p .at) (p .from) (p .count) ≡ walkedOn u b n rest p
+      splits : rest < n → partCompacted u b (span (p .column) (p .at) (p .from) (p .count)) ≡ walkedOn u b n rest p
       unfolding partCompacted walkedOn openedFor compacting walkedOf longOf
       splits h = rw (open-is q, ← i, ← rest-at, lt-leb n rest h)
 
-      pub compact-copied : {slots′ pool′ books′ : List ℕ} → n ≤ rest → compacting u b p ≡ ok (world s slots′ pool′ books′) → Steps (partCompacted u b (p .column) (p .at) (p .from) (p .count)) (record { state = s; number = 0 }) slots′ pool′ books′
+      pub compact-copied : {slots′ pool′ books′ : List ℕ} → n ≤ rest → compacting u b p ≡ ok (world s slots′ pool′ books′) → Steps (partCompacted u b (span (p .column) (p .at) (p .from) (p .count))) (record { state = s; number = 0 }) slots′ pool′ books′
       compact-copied h z = steps-done (fits-open h ∙ z)
 
-      pub compact-walked : {y : Step} {slots′ pool′ books′ : List ℕ} → rest < n → Steps (walkedOn u b n rest p) y slots′ pool′ books′ → Steps (partCompacted u b (p .column) (p .at) (p .from) (p .count)) y slots′ pool′ books′
+      pub compact-walked : {y : Step} {slots′ pool′ books′ : List ℕ} → rest < n → Steps (walkedOn u b n rest p) y slots′ pool′ books′ → Steps (partCompacted u b (span (p .column) (p .at) (p .from) (p .count))) y slots′ pool′ books′
       compact-walked h z = rw (splits h) z

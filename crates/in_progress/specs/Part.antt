@@ -10,7 +10,7 @@ use Rattle.rules.specs.declared.ColumnRecord.{ColumnRecord}
 use Rattle.rules.specs.declared.Way.{Way}
 use Rattle.rules.specs.Batch.{Batch, recordOf, ideal}
 use Rattle.rules.specs.Steps.{Res, bind}
-use Rattle.rules.specs.Views.{isOpen, openRest, longBefore, closed, blockOpened, viewsCompacted, walked, listAttached, viewsRaised, partAttached, bitsCopied, byWay}
+use Rattle.rules.specs.Views.{span, isOpen, openRest, longBefore, closed, blockOpened, viewsCompacted, walked, listAttached, viewsRaised, partAttached, bitsCopied, byWay}
 use Rattle.state.specs.declared.BatchCoalescer.{BatchCoalescer}
 use Rattle.state.specs.World.{World, world}
 use Rattle.state.specs.Layout.{isViews, valuesPlace}
@@ -32,7 +32,7 @@ unfoldable pub longOf : World → Batch → Rows → ℕ
 longOf w b p = longBefore w b (p .column) (p .from) (p .count)
 
 unfoldable pub compacting : World → Batch → Rows → Res
-compacting w b p = viewsCompacted w b (p .column) (p .at) (p .from) (p .count)
+compacting w b p = viewsCompacted w b (span (p .column) (p .at) (p .from) (p .count))
 
 -- a block opened for a minimum, and the part copied into it; the same where the open block is closed before; and the walk
 unfoldable pub openedFor : World → Batch → ℕ → Rows → Res
@@ -49,7 +49,7 @@ walkedOn w b ideal rest p =
 
 -- the rows' validity and then the rows themselves, the way that was decided
 unfoldable pub copiedBy : World → Batch → Rows → Way → Res
-copiedBy w b p y = byWay (bitsCopied w b (p .column) (w .state .place) (p .at) (p .from) (p .count)) b (p .column) (p .at) (p .from) (p .count) y
+copiedBy w b p y = byWay (bitsCopied w b (w .state .place) (span (p .column) (p .at) (p .from) (p .count))) b (span (p .column) (p .at) (p .from) (p .count)) y
 
 -- ---- what is asked
 
@@ -95,8 +95,8 @@ pub record Decided (w : World) (b : Batch) (c : ℕ) (x : Source) : Type 0 where
 
 -- a part is attached with its list, or is not
 pub record AttachesPart (s : BatchCoalescer) (slots books : List ℕ) (b : Batch) (p : Rows) (q : Step) (slots′ books′ : List ℕ) : Type 0 where
-  pub steps : (pool : List ℕ) → length pool ≡ s .pool .0 → Steps (partAttached (world s slots pool books) b (p .column) (p .at) (p .from) (p .count)) q slots′ pool books′
+  pub steps : (pool : List ℕ) → length pool ≡ s .pool .0 → Steps (partAttached (world s slots pool books) b (span (p .column) (p .at) (p .from) (p .count))) q slots′ pool books′
 
 -- the list of a column and the views of a part behind it, their index raised by k
 pub record RaisesPart (s : BatchCoalescer) (slots books : List ℕ) (b : Batch) (k : ℕ) (p : Rows) (slots′ books′ : List ℕ) : Type 0 where
-  pub is : (pool : List ℕ) → viewsRaised (listAttached (world s slots pool books) b (p .column)) b (p .column) k (p .at) (p .from) (p .count) ≡ world s slots′ pool books′
+  pub is : (pool : List ℕ) → viewsRaised (listAttached (world s slots pool books) b (p .column)) b k (span (p .column) (p .at) (p .from) (p .count)) ≡ world s slots′ pool books′

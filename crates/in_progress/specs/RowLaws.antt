@@ -17,7 +17,7 @@ use Rattle.primitive.specs.PlacedLaws.{begin-at, placed-copied}
 use Rattle.rules.specs.declared.ColumnRecord.{ColumnRecord}
 use Rattle.rules.specs.declared.Way.{Way}
 use Rattle.rules.specs.Batch.{Batch, batch, recordOf, hasBitmap, ideal}
-use Rattle.rules.specs.Views.{bitsCopied, byWay, partCompacted}
+use Rattle.rules.specs.Views.{span, bitsCopied, byWay, partCompacted}
 use Rattle.rules.specs.SameLaws.{same-ideal}
 use Rattle.rules.specs.PartLaws.{bits-beside}
 use Rattle.state.specs.declared.BatchCoalescer.{BatchCoalescer}
@@ -67,7 +67,7 @@ module _ {s : BatchCoalescer} {slots pool books records body : List ℕ} {rows :
     rows-copied f z = steps-done (ap (copiedBy w b p) f ∙ rows-plain z)
 
     module _ {slots′ : List ℕ} (q : slots′ ≡ lay (p .place + s .rows .0 * width) (appended (read (p .place + s .rows .0 * width) size slots) (p .at) (bitsOf r body (p .from)) (p .count)) slots) where
-      v : world s slots′ pool books ≡ bitsCopied w b (p .column) (s .place) (p .at) (p .from) (p .count)
+      v : world s slots′ pool books ≡ bitsCopied w b (s .place) (span (p .column) (p .at) (p .from) (p .count))
       v = bits-copied s slots pool books rows records body (p .column) (s .place) (p .at) (p .from) (p .count) (x .recorded) (begin-at part-placed we) e q
 
       on : Along w (world s slots′ pool books)
@@ -81,7 +81,7 @@ module _ {s : BatchCoalescer} {slots pool books records body : List ℕ} {rows :
       bits-part : Part (world s slots′ pool books) b r p
       bits-part = part-on on x
 
-      copied-by : (y : Way) → copiedBy w b p y ≡ byWay (world s slots′ pool books) b (p .column) (p .at) (p .from) (p .count) y
+      copied-by : (y : Way) → copiedBy w b p y ≡ byWay (world s slots′ pool books) b (span (p .column) (p .at) (p .from) (p .count)) y
       unfolding copiedBy
       copied-by y = rw v
 
@@ -115,5 +115,5 @@ module _ {s : BatchCoalescer} {slots pool books records body : List ℕ} {rows :
           pub rows-ideal : source .ideal .0 ≡ ideal (world s slots′ pool books) b (p .column)
           rows-ideal = d .ideal-is (views-so not-copied′) ∙ sym (same-ideal w (world s slots′ pool books) b (on .beside .set-up) (p .column))
 
-          pub rows-compacted : {t : Step} {slots″ pool″ books″ : List ℕ} → Steps (partCompacted (world s slots′ pool books) b (p .column) (p .at) (p .from) (p .count)) t slots″ pool″ books″ → Steps (copiedBy w b p (source .way)) t slots″ pool″ books″
+          pub rows-compacted : {t : Step} {slots″ pool″ books″ : List ℕ} → Steps (partCompacted (world s slots′ pool books) b (span (p .column) (p .at) (p .from) (p .count))) t slots″ pool″ books″ → Steps (copiedBy w b p (source .way)) t slots″ pool″ books″
           rows-compacted a = rw (copied-by (source .way), f) a

@@ -10,7 +10,7 @@ ghost use Rattle.state.specs.Layout.{listLength};
 ghost use Rattle.rules.specs.declared.Way.{Way};
 ghost use Rattle.rules.specs.Batch.{batch};
 ghost use Rattle.rules.specs.Steps.{ok};
-ghost use Rattle.rules.specs.Views.{closed, partCompacted};
+ghost use Rattle.rules.specs.Views.{span, closed, partCompacted};
 ghost use Rattle.rules.specs.Leaves.{Steps};
 ghost use Rattle.in_progress.specs.Part.{Part, ViewPart, AnyPart, RoomInOpen, Walks, Decided, firstRows, rowsBehind, longOf, compacting, openedFor, walkedOn, copiedBy, AttachesPart, RaisesPart};
 use byte_view::Copying;
@@ -210,7 +210,7 @@ fn append_views_and_copy_strings(
 ) -> Step
     requires { ⌜ (ViewPart (world s (now slots) (now pool) (now books)) (batch rows (now records) (now body)) r p)
         × (ideal .0 ≡ Rattle.rules.specs.Batch.ideal (world s (now slots) (now pool) (now books)) (batch rows (now records) (now body)) (p .column)) ⌝ }
-    ensures { λ q. ⌜ Steps (partCompacted (world s (now (slots .entry)) (now (pool .entry)) (now (books .entry))) (batch rows (now (records .entry)) (now (body .entry))) (p .column) (p .at) (p .from) (p .count))
+    ensures { λ q. ⌜ Steps (partCompacted (world s (now (slots .entry)) (now (pool .entry)) (now (books .entry))) (batch rows (now (records .entry)) (now (body .entry))) (span (p .column) (p .at) (p .from) (p .count)))
         q (now (slots .exit)) (now (pool .exit)) (now (books .exit)) ⌝ }
 {
     let column = layout::column_of(s, p.column);

@@ -20,7 +20,7 @@ use Rattle.state.specs.World.{world}
 use Rattle.state.specs.Layout.{widthOf, bitmapBytes, bitmapPlace, cellPlace}
 use Rattle.rules.specs.declared.ColumnRecord.{ColumnRecord}
 use Rattle.rules.specs.Batch.{batch, recordOf, hasBitmap, bitOf}
-use Rattle.rules.specs.Views.{bitsLaid, valuesLaid, bitsCopied, valuesCopied}
+use Rattle.rules.specs.Views.{span, bitsLaid, valuesLaid, bitsCopied, valuesCopied}
 use Rattle.primitive.specs.declared.Rows.{Rows}
 use Rattle.primitive.specs.Fits.{bitsOf, rowsLaid, Bitmapped, Valued}
 
@@ -140,10 +140,10 @@ record-any rows records body c e = e
 module _ (s : BatchCoalescer) (slots pool books : List ℕ) (rows : ℕ) (records body : List ℕ) (c slot at from n : ℕ) {r : ColumnRecord}
     (own : r ≡ recordOf (batch rows records body) c) where
   -- t is what the code has left in the slots
-  pub bits-copied : {begin size : ℕ} {t : List ℕ} → begin ≡ bitmapPlace s slot c → size ≡ bitmapBytes s → t ≡ lay begin (appended (read begin size slots) at (bitsOf r body from) n) slots → world s t pool books ≡ bitsCopied (world s slots pool books) (batch rows records body) c slot at from n
+  pub bits-copied : {begin size : ℕ} {t : List ℕ} → begin ≡ bitmapPlace s slot c → size ≡ bitmapBytes s → t ≡ lay begin (appended (read begin size slots) at (bitsOf r body from) n) slots → world s t pool books ≡ bitsCopied (world s slots pool books) (batch rows records body) slot (span c at from n)
   unfolding bitsCopied bitsLaid
   bits-copied p q e = ap (λ (x : List ℕ). world s x pool books) e ∙ rw (p, q, own)
 
-  pub values-copied : {to w : ℕ} {t : List ℕ} → to ≡ cellPlace s slot c at → w ≡ widthOf s c → t ≡ lay to (read (r .values + from * w) (n * w) body) slots → world s t pool books ≡ valuesCopied (world s slots pool books) (batch rows records body) c slot at from n
+  pub values-copied : {to w : ℕ} {t : List ℕ} → to ≡ cellPlace s slot c at → w ≡ widthOf s c → t ≡ lay to (read (r .values + from * w) (n * w) body) slots → world s t pool books ≡ valuesCopied (world s slots pool books) (batch rows records body) slot (span c at from n)
   unfolding valuesCopied valuesLaid
   values-copied p q e = ap (λ (x : List ℕ). world s x pool books) e ∙ rw (p, q, own)

@@ -20,7 +20,7 @@ use Rattle.layout.specs.ExitLaws.{values-small}
 use Rattle.layout.specs.PlaceLaws.{cells-below, bitmap-below}
 use Rattle.rules.specs.declared.ColumnRecord.{ColumnRecord}
 use Rattle.rules.specs.Batch.{Batch, batch, recordOf}
-use Rattle.rules.specs.Views.{bitsCopied, valuesCopied}
+use Rattle.rules.specs.Views.{span, bitsCopied, valuesCopied}
 use Rattle.primitive.specs.declared.Rows.{Rows}
 use Rattle.primitive.specs.Fits.{bitsOf, rowsLaid, Bitmapped, Valued}
 use Rattle.primitive.specs.LaidLaws.{bits-copied, values-copied}
@@ -108,9 +108,9 @@ module _ {s : BatchCoalescer} {slot L : ℕ} {r : ColumnRecord} {n : ℕ} {p : R
   b = batch rows records body
 
   pub placed-copied : {t : List ℕ} → t ≡ rowsLaid (p .place + s .rows .0 * width) size r body width p slots
-      → valuesCopied (bitsCopied (world s slots pool books) b (p .column) slot (p .at) (p .from) (p .count)) b (p .column) slot (p .at) (p .from) (p .count) ≡ world s t pool books
+      → valuesCopied (bitsCopied (world s slots pool books) b slot (span (p .column) (p .at) (p .from) (p .count))) b slot (span (p .column) (p .at) (p .from) (p .count)) ≡ world s t pool books
   placed-copied {t} q =
-      ap (λ (w : World). valuesCopied w b (p .column) slot (p .at) (p .from) (p .count)) (sym (bits-copied s slots pool books rows records body (p .column) slot (p .at) (p .from) (p .count) own (begin-at x e) f refl))
+      ap (λ (w : World). valuesCopied w b slot (span (p .column) (p .at) (p .from) (p .count))) (sym (bits-copied s slots pool books rows records body (p .column) slot (p .at) (p .from) (p .count) own (begin-at x e) f refl))
       ∙ sym (values-copied s half pool books rows records body (p .column) slot (p .at) (p .from) (p .count) own (cell-at x e) e q)
     where
       half : List ℕ

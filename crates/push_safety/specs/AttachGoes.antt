@@ -20,7 +20,7 @@ use Rattle.state.specs.declared.OpenBlock.{OpenBlock}
 use Rattle.state.specs.World.{World, columnOf}
 use Rattle.state.specs.Layout.{isViews, listPlace, listLength}
 use Rattle.rules.specs.Batch.{Batch, recordOf, listedNumber, listOf}
-use Rattle.rules.specs.Views.{filling, closed, listAttached, partAttached}
+use Rattle.rules.specs.Views.{span, filling, closed, listAttached, partAttached}
 use Rattle.rules.specs.Held.{Among, one-of, Holds, held, refused, holds-cond}
 use Rattle.rules.specs.Stays.{Beside, same-refl}
 use Rattle.rules.specs.PartLaws.{closed-beside}
@@ -104,7 +104,7 @@ module _ (w : World) (b : Batch) (c : ℕ) where
             let z : _≡_ {A = ℕ} 0 1 = cc in omega arith
 
 -- a part attached
-pub part-attached-goes : (w : World) (b : Batch) (c at from n : ℕ) → Run w → Readable w b → c < w .state .columns → isViews (w .state) c ≡ true → Holds (Goes w) (Among (10 ∷ [])) (partAttached w b c at from n)
+pub part-attached-goes : (w : World) (b : Batch) (c at from n : ℕ) → Run w → Readable w b → c < w .state .columns → isViews (w .state) c ≡ true → Holds (Goes w) (Among (10 ∷ [])) (partAttached w b (span c at from n))
 unfolding partAttached
 part-attached-goes w b c at from n r x h y =
     holds-cond (leb (listLength (closed w c) (filling w) c + recordOf b c .count) (w .state .lists))

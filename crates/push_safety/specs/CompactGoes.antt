@@ -9,7 +9,7 @@ use borrow.Author.Tests.{leb-true}
 use Rattle.state.specs.World.{World}
 use Rattle.state.specs.Layout.{isViews}
 use Rattle.rules.specs.Batch.{Batch, ideal}
-use Rattle.rules.specs.Views.{isOpen, openRest, closed, blockOpened, longBefore, viewsCompacted, walked, partCompacted}
+use Rattle.rules.specs.Views.{span, isOpen, openRest, closed, blockOpened, longBefore, viewsCompacted, walked, partCompacted}
 use Rattle.rules.specs.Held.{Among, Holds, holds-more, holds-bind, holds-cond, holds-among}
 use Rattle.rules.specs.SameLaws.{same-long-before}
 use Rattle.rules.specs.PartLaws.{closed-beside, opened-holds, views-holds}
@@ -36,14 +36,14 @@ module _ (w : World) (b : Batch) (c : ℕ) (h : c < w .state .columns) (y : isVi
       (λ u p. record { along = along-trans a (record { goes = p .0 .goes; beside = p .1 }); is-open = p .0 .is-open; rest = p .0 .rest })
       (λ n m. m))
 
-  copies : (v : World) (at from n : ℕ) → Along w v → isOpen v c ≡ true → longBefore w b c from n ≤ openRest v c → Holds (Goes w) (Among parts) (viewsCompacted v b c at from n)
+  copies : (v : World) (at from n : ℕ) → Along w v → isOpen v c ≡ true → longBefore w b c from n ≤ openRest v c → Holds (Goes w) (Among parts) (viewsCompacted v b (span c at from n))
   copies v at from n a o l =
       holds-among parts tt
       (along-holds (a .goes)
       (compacted-goes v b c at from n (a .goes .run) (along-in (a .beside) c h) (along-views (a .beside) c y) o
       (omega (arith, l, same-long-before w v b (a .beside .set-up) c from n))))
 
-  part-compacts : (at from n : ℕ) → Run w → from + n ≤ b .rows → Holds (Goes w) (Among (8 ∷ 10 ∷ 11 ∷ 12 ∷ 14 ∷ [])) (partCompacted w b c at from n)
+  part-compacts : (at from n : ℕ) → Run w → from + n ≤ b .rows → Holds (Goes w) (Among (8 ∷ 10 ∷ 11 ∷ 12 ∷ 14 ∷ [])) (partCompacted w b (span c at from n))
   unfolding partCompacted
   part-compacts at from n r l =
       holds-cond (isOpen w c)
@@ -68,5 +68,5 @@ module _ (w : World) (b : Batch) (c : ℕ) (h : c < w .state .columns) (y : isVi
           let s : longBefore w b c from n ≡ longBefore w b c from k + longBefore w b c (from + k) (n - k) = rw e at (before-more w b c from k (n - k)) in
           omega (arith, part-ideal w b c from n l)
 
-pub part-compacted-goes : (w : World) (b : Batch) (c at from n : ℕ) → Run w → c < w .state .columns → isViews (w .state) c ≡ true → from + n ≤ b .rows → Holds (Goes w) (Among (8 ∷ 10 ∷ 11 ∷ 12 ∷ 14 ∷ [])) (partCompacted w b c at from n)
+pub part-compacted-goes : (w : World) (b : Batch) (c at from n : ℕ) → Run w → c < w .state .columns → isViews (w .state) c ≡ true → from + n ≤ b .rows → Holds (Goes w) (Among (8 ∷ 10 ∷ 11 ∷ 12 ∷ 14 ∷ [])) (partCompacted w b (span c at from n))
 part-compacted-goes w b c at from n r h y l = part-compacts w b c h y at from n r l

@@ -28,7 +28,7 @@ use Rattle.rules.specs.Batch.{Batch}
 use Rattle.rules.specs.Copies.{startsFit}
 use Rattle.rules.specs.CopyLaws.{length-viewsPut, length-bytesCarried}
 use Rattle.rules.specs.Steps.{ok, withColumn, inState, inBooks}
-use Rattle.rules.specs.Views.{filling, hasBlock, blockNumber, isOpen, openNumber, openFilled, openRest, opening, blockOpened, viewsFrom, longBefore, viewsCompacted}
+use Rattle.rules.specs.Views.{span, filling, hasBlock, blockNumber, isOpen, openNumber, openFilled, openRest, opening, blockOpened, viewsFrom, longBefore, viewsCompacted}
 use Rattle.rules.specs.Held.{Among, one-of, Holds, held, refused, holds-more, holds-cond, holds-ok, holds-among}
 use Rattle.rules.specs.Stays.{same-refl}
 use Rattle.rules.specs.PartLaws.{block-among}
@@ -165,7 +165,7 @@ opened-rest w c min v r h y e = holds-ok v (opened-anew w c min r h y) e
 
 -- ---- bytes into the open block
 
-pub compacted-goes : (w : World) (b : Batch) (c at from n : ℕ) → Run w → c < w .state .columns → isViews (w .state) c ≡ true → isOpen w c ≡ true → longBefore w b c from n ≤ openRest w c → Holds (Goes w) (Among (8 ∷ [])) (viewsCompacted w b c at from n)
+pub compacted-goes : (w : World) (b : Batch) (c at from n : ℕ) → Run w → c < w .state .columns → isViews (w .state) c ≡ true → isOpen w c ≡ true → longBefore w b c from n ≤ openRest w c → Holds (Goes w) (Among (8 ∷ [])) (viewsCompacted w b (span c at from n))
 unfolding viewsCompacted
 compacted-goes w b c at from n r h y o l =
     holds-cond (startsFit (viewsFrom w b c from) (openFilled w c) n)

@@ -7,7 +7,7 @@ use Rattle.state.specs.World.{World}
 use Rattle.state.specs.Layout.{isViews}
 use Rattle.rules.specs.declared.Way.{Way}
 use Rattle.rules.specs.Batch.{Batch, way}
-use Rattle.rules.specs.Views.{filling, bitsCopied, byWay, columnCopied, partCopied}
+use Rattle.rules.specs.Views.{span, filling, bitsCopied, byWay, columnCopied, partCopied}
 use Rattle.rules.specs.Push.{partTaken}
 use Rattle.rules.specs.Held.{Among, Holds, held, holds-more, holds-bind, holds-each, holds-among}
 use Rattle.rules.specs.PartLaws.{bits-beside, column-holds}
@@ -22,7 +22,7 @@ abbrev parts : List ℕ
 parts = 8 ∷ 10 ∷ 11 ∷ 12 ∷ 14 ∷ []
 
 -- a part of a column, by its way: views go any, other columns are copied
-by-way : (w : World) (b : Batch) (c at from n : ℕ) (z : Way) → Run w → Readable w b → c < w .state .columns → isViews (w .state) c ≡ true → from + n ≤ b .rows → Holds (Goes w) (Among parts) (byWay w b c at from n z)
+by-way : (w : World) (b : Batch) (c at from n : ℕ) (z : Way) → Run w → Readable w b → c < w .state .columns → isViews (w .state) c ≡ true → from + n ≤ b .rows → Holds (Goes w) (Among parts) (byWay w b (span c at from n) z)
 by-way w b c at from n Way.Copied r x h y l = held (values-goes b c (filling w) at from n r)
 by-way w b c at from n Way.Attached r x h y l = holds-among parts tt (part-attached-goes w b c at from n r x h y)
 by-way w b c at from n Way.Compacted r x h y l = part-compacted-goes w b c at from n r h y l
@@ -32,12 +32,12 @@ unfolding columnCopied
 column-goes w₀ w b c from n r x h l = go (isViews (w .state) c) refl
   where
     v : World
-    v = bitsCopied w b c (filling w) (w .state .buffered .0) from n
+    v = bitsCopied w b (filling w) (span c (w .state .buffered .0) from n)
 
     a : Along w v
     a = record { goes = bits-goes b c (filling w) (w .state .buffered .0) from n r; beside = bits-beside w b c (filling w) (w .state .buffered .0) from n }
 
-    go : (y : Bool) → isViews (w .state) c ≡ y → Holds (Goes w) (Among parts) (byWay v b c (w .state .buffered .0) from n (cond y (way w₀ b c) Way.Copied))
+    go : (y : Bool) → isViews (w .state) c ≡ y → Holds (Goes w) (Among parts) (byWay v b (span c (w .state .buffered .0) from n) (cond y (way w₀ b c) Way.Copied))
     go true y =
         along-holds (a .goes)
         (by-way v b c (w .state .buffered .0) from n (way w₀ b c) (a .goes .run) (a .goes .reads b x) (along-in (a .beside) c h) (along-views (a .beside) c y) l)

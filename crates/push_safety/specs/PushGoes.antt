@@ -10,13 +10,14 @@ use Rattle.words.specs.WordLaws.{Bytes}
 use Rattle.state.specs.World.{World}
 use Rattle.rules.specs.Batch.{Batch}
 use Rattle.rules.specs.Steps.{bind}
-use Rattle.rules.specs.Push.{finished, partTaken, space, ifFull, coalesced, overLimit, stepped, pushed}
+use Rattle.rules.specs.Push.{finished, partTaken, ifFull, cutUp, overLimit, stepped, pushed}
+use Rattle.rules.specs.Turns.{space, coalesced}
 use Rattle.rules.specs.Held.{Among, one-of, among-more, Holds, held, refused, holds-more, holds-bind, holds-among}
 use Rattle.rules.specs.CheckLaws.{fault-number}
 use Rattle.rules.specs.Ranges.{fitsSetUp, stateInRange, tested}
 use Rattle.rules.specs.TestLaws.{range-counted}
 use Rattle.rules.specs.Stays.{kept-trans}
-use Rattle.rules.specs.PushLaws.{PushCase, push-case, Ends, finished-holds, taken-holds, pushNumbers}
+use Rattle.rules.specs.PushLaws.{PushCase, push-case, Ends, finished-holds, taken-holds, coalesced-is, pushNumbers}
 use Rattle.push_safety.specs.Run.{Run, Readable, Goes}
 use Rattle.push_safety.specs.TestedLaws.{tested-run}
 use Rattle.push_safety.specs.ReadLaws.{fault-readable}
@@ -81,8 +82,9 @@ unfolding stepped
 stepped-goes w b r x t =
     go (overLimit (w .state .limit) (b .rows)) refl (eqb (w .state .buffered .0) 0) refl (overLimit (w .state .limit) (w .state .buffered .0)) refl
   where
-    cut : Holds (FirmGoes w) (Among steps) (coalesced (b .rows) w w b 0)
-    cut = holds-more (coalesced-goes w b (b .rows) w 0 r x (omega arith) t) (λ v g. goes-firm g) (λ n m. m)
+    cut : Holds (FirmGoes w) (Among steps) (cutUp w b)
+    cut =
+        rw (coalesced-is w b) (holds-more (coalesced-goes w b (b .rows) w 0 r x (omega arith) t) (λ v g. goes-firm g) (λ n m. m))
 
     go : (p : Bool) → overLimit (w .state .limit) (b .rows) ≡ p → (q : Bool) → eqb (w .state .buffered .0) 0 ≡ q → (z : Bool) → overLimit (w .state .limit) (w .state .buffered .0) ≡ z → Holds (FirmGoes w) (Among steps) (stepped w b)
     go false p q e z f = rw (p, stepped) cut

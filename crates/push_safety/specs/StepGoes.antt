@@ -23,7 +23,7 @@ use Rattle.state.specs.World.{World, noColumn, columnOf}
 use Rattle.state.specs.Layout.{isViews, booksLength, tally, listLength}
 use Rattle.rules.specs.Batch.{Batch}
 use Rattle.rules.specs.Steps.{withCounts, withColumn, inState, buffering, counting}
-use Rattle.rules.specs.Views.{bitsLaid, valuesLaid, bitsCopied, valuesCopied, viewsRaised}
+use Rattle.rules.specs.Views.{span, bitsLaid, valuesLaid, bitsCopied, valuesCopied, viewsRaised}
 use Rattle.rules.specs.CopyLaws.{length-viewsPut}
 use Rattle.rules.specs.Stays.{SameSetUp, same-counts, same-column, beside-kept}
 use Rattle.rules.specs.PartLaws.{counting-beside}
@@ -34,23 +34,23 @@ use Rattle.push_safety.specs.Firm.{Firm, FirmGoes, run-firm, same-list-l
 -- ---- only slots change
 
 module _ {w : World} (b : Batch) (c : ℕ) where
-  pub bits-goes : (slot at from n : ℕ) → Run w → Goes w (bitsCopied w b c slot at from n)
+  pub bits-goes : (slot at from n : ℕ) → Run w → Goes w (bitsCopied w b slot (span c at from n))
   unfolding bitsCopied bitsLaid
   bits-goes slot at from n r = slots-goes refl (length-lay _ _ (w .slots)) refl refl r
 
-  pub bits-firm : (slot at from n : ℕ) → Firm w → FirmGoes w (bitsCopied w b c slot at from n)
+  pub bits-firm : (slot at from n : ℕ) → Firm w → FirmGoes w (bitsCopied w b slot (span c at from n))
   unfolding bitsCopied bitsLaid
   bits-firm slot at from n r = slots-firm refl (length-lay _ _ (w .slots)) refl refl r
 
-  pub values-goes : (slot at from n : ℕ) → Run w → Goes w (valuesCopied w b c slot at from n)
+  pub values-goes : (slot at from n : ℕ) → Run w → Goes w (valuesCopied w b slot (span c at from n))
   unfolding valuesCopied valuesLaid
   values-goes slot at from n r = slots-goes refl (length-lay _ _ (w .slots)) refl refl r
 
-  pub values-firm : (slot at from n : ℕ) → Firm w → FirmGoes w (valuesCopied w b c slot at from n)
+  pub values-firm : (slot at from n : ℕ) → Firm w → FirmGoes w (valuesCopied w b slot (span c at from n))
   unfolding valuesCopied valuesLaid
   values-firm slot at from n r = slots-firm refl (length-lay _ _ (w .slots)) refl refl r
 
-  pub raised-goes : (k at from n : ℕ) → Run w → Goes w (viewsRaised w b c k at from n)
+  pub raised-goes : (k at from n : ℕ) → Run w → Goes w (viewsRaised w b k (span c at from n))
   unfolding viewsRaised
   raised-goes k at from n r = slots-goes refl (length-viewsPut _ (w .slots) _ n) refl refl r
 

@@ -12,7 +12,7 @@ use Rattle.state.specs.World.{World}
 use Rattle.state.specs.Layout.{listLength}
 use Rattle.rules.specs.Batch.{Batch, recordOf}
 use Rattle.rules.specs.Steps.{each, counting, queueing}
-use Rattle.rules.specs.Views.{filling, bitsCopied, valuesCopied, listAttached}
+use Rattle.rules.specs.Views.{span, filling, bitsCopied, valuesCopied, listAttached}
 use Rattle.rules.specs.Push.{columnWhole, columnsWhole, queuedWhole}
 use Rattle.rules.specs.Held.{Among, one-of, Holds, held, refused, holds-more, holds-cond}
 use Rattle.push_safety.specs.Run.{Run, ColumnReads, Readable, Goes}
@@ -26,7 +26,7 @@ use Rattle.push_safety.specs.FinishGoes.{Shut, shut-spare, queueing-firm
 
 -- column c of the batch before its list is attached
 abbrev copied : World → Batch → ℕ → World
-copied v b c = valuesCopied (bitsCopied v b c (filling v) 0 0 (b .rows)) b c (filling v) 0 0 (b .rows)
+copied v b c = valuesCopied (bitsCopied v b (filling v) (span c 0 0 (b .rows))) b (filling v) (span c 0 0 (b .rows))
 
 copied-list : (v : World) (b : Batch) (c slot d : ℕ) → listLength (copied v b c) slot d ≡ listLength v slot d
 unfolding bitsCopied valuesCopied listLength
@@ -76,7 +76,7 @@ module _ (w : World) (b : Batch) where
 
         g : FirmGoes w u
         g =
-            let f : FirmGoes v (bitsCopied v b n (filling v) 0 0 (b .rows)) = bits-firm b n (filling v) 0 0 (b .rows) (a .goes .firm) in
+            let f : FirmGoes v (bitsCopied v b (filling v) (span n 0 0 (b .rows))) = bits-firm b n (filling v) 0 0 (b .rows) (a .goes .firm) in
             firm-trans (a .goes) (firm-trans f (values-firm b n (filling v) 0 0 (b .rows) (f .firm)))
 
         within : n < u .state .columns

@@ -11,7 +11,8 @@ use Rattle.state.specs.declared.Limit.{Limit}
 use Rattle.state.specs.World.{World}
 use Rattle.rules.specs.Batch.{Batch}
 use Rattle.rules.specs.Steps.{bind}
-use Rattle.rules.specs.Push.{finished, queuedWhole, coalesced, overLimit, stepped}
+use Rattle.rules.specs.Push.{finished, queuedWhole, overLimit, stepped}
+use Rattle.rules.specs.Turns.{coalesced}
 use Rattle.rules.specs.StepLaws.{stepped-small, stepped-whole, stepped-finishes, stepped-on}
 use Rattle.routes.specs.declared.Route.{Route}
 use Rattle.routes.specs.Route.{routeOf}

@@ -4,10 +4,11 @@ use mathlib.Core.Path.{_≡_, refl, sym, _∙_, ap}
 use Rattle.state.specs.World.{World}
 use Rattle.rules.specs.Batch.{Batch}
 use Rattle.rules.specs.Steps.{Res, ok, refuse, bind}
-use Rattle.rules.specs.Push.{finished, partTaken, space, ifFull, coalesced}
+use Rattle.rules.specs.Push.{finished, partTaken, ifFull}
+use Rattle.rules.specs.Turns.{space, coalesced, coalesced-last}
 use Rattle.rules.specs.Held.{holds-ok}
 use Rattle.rules.specs.PushLaws.{Ends, taken-holds}
-use Rattle.rules.specs.StepLaws.{full-finishes, coalesced-last}
+use Rattle.rules.specs.StepLaws.{full-finishes}
 
 -- behind a part that fills the slot, finishing if it is full is finishing
 pub full-turn : (w₀ w : World) (b : Batch) (from n : ℕ) → w .state .buffered .0 + n ≡ w .state .target .0 → bind (partTaken w₀ w b from n) ifFull ≡ bind (partTaken w₀ w b from n) finished

@@ -1,10 +1,11 @@
 -- Every call: its answer, and the world after it. A refusal gives its number, and the world is the old one.
 use Prim.Native.Nat.{ℕ, zero, suc, _+_, _*_, _-_}
-use mathlib.Core.Bool.{Bool, true, false, _&&_, cond}
+use mathlib.Core.Bool.{Bool, _&&_, not, cond}
 use mathlib.Core.List.{List, [], _∷_}
 use mathlib.Core.Option.{Option, none, some}
 use lib.ListN.{length, replicate}
 use lib.Dec.{ltb, eqb}
+use Rattle.search.specs.InOrder.{test, inOrder}
 use Rattle.words.specs.Run.{read}
 use Rattle.bits.specs.Bits.{bitsFrom}
 use Rattle.blocks.specs.Block.{fresh}
@@ -85,11 +86,9 @@ noState = newState (record { target = 0; rows = 0; queue = 0; kinds = []; lists 
 -- new: a state, with slots and pool as they were and books of zeros; or refusal 1, and nothing changed
 unfoldable pub setUpCall : Wanted → List ℕ → List ℕ → List ℕ → Answered
 setUpCall a slots pool books =
-    elim (fitsSetUp (record { state = newState a; slots = slots; pool = pool; books = books })) [
-      | true ↦
-          record { number = 0; world = record { state = newState a; slots = slots; pool = pool; books = replicate (length books) 0 } }
-      | false ↦ record { number = 1; world = record { state = noState; slots = slots; pool = pool; books = books } }
-    ]
+    cond (fitsSetUp (record { state = newState a; slots = slots; pool = pool; books = books }))
+    (record { number = 0; world = record { state = newState a; slots = slots; pool = pool; books = replicate (length books) 0 } })
+    (record { number = 1; world = record { state = noState; slots = slots; pool = pool; books = books } })
 
 -- ---- the calls
 
@@ -123,13 +122,12 @@ dropped w =
     inState v (withCounts (w .state) (w .state .place) (w .state .queued - 1) (w .state .buffered .0))
 
 unfoldable pub dropCall : World → Dropped
-dropCall w = elim (eqb (tested w) 0) [
-  | true ↦ elim (eqb (w .state .queued) 0) [
-    | true ↦ record { number = 0; rows = 0; world = w }
-    | false ↦ record { number = 0; rows = rowsIn w (frontSlot w); world = dropped w }
-  ]
-  | false ↦ record { number = tested w; rows = 0; world = w }
-]
+dropCall w =
+    inOrder
+    (test (eqb (tested w) 0) (record { number = tested w; rows = 0; world = w })
+    ∷ test (not (eqb (w .state .queued) 0)) (record { number = 0; rows = 0; world = w })
+    ∷ [])
+    (record { number = 0; rows = rowsIn w (frontSlot w); world = dropped w })
 
 -- register and let go, behind the tests. 01: "Registering: 13, 11, 12."
 pub record RegisterAnswer : Type 0 where
@@ -137,17 +135,15 @@ pub record RegisterAnswer : Type 0 where
   pub world : World
 
 unfoldable pub registerCall : World → List ℕ → ℕ → RegisterAnswer
-registerCall w bytes capacity = elim (eqb (tested w) 0) [
-  | true ↦ (let o = registered (w .books) (w .pool) (w .state .numbers) bytes capacity in
-      record { answer = o .answer; world = record { state = w .state; slots = w .slots; pool = o .pool; books = o .books } })
-  | false ↦ record { answer = Registered.Refused (tested w); world = w }
-]
+registerCall w bytes capacity =
+    let o = registered (w .books) (w .pool) (w .state .numbers) bytes capacity in
+    cond (eqb (tested w) 0) (record { answer = o .answer; world = record { state = w .state; slots = w .slots; pool = o .pool; books = o .books } })
+    (record { answer = Registered.Refused (tested w); world = w })
 
 unfoldable pub letGoCall : World → ℕ → Answered
-letGoCall w i = elim (eqb (tested w) 0) [
-  | true ↦ (let o = letGo (w .books) i in record { number = o .answer; world = inBooks w (o .books) })
-  | false ↦ record { number = tested w; world = w }
-]
+letGoCall w i =
+    let o = letGo (w .books) i in
+    cond (eqb (tested w) 0) (record { number = o .answer; world = inBooks w (o .books) }) (record { number = tested w; world = w })
 
 -- ---- reads
 
@@ -174,12 +170,10 @@ isRow w c i = ltb 0 (w .state .queued) && (ltb c (w .state .columns) && ltb i (r
 -- there"
 unfoldable pub readRow : World → ℕ → ℕ → RowAnswer
 readRow w c i =
-    cond (eqb (tested w) 0)
-    (cond (isRow w c i)
+    inOrder
+    (test (eqb (tested w) 0) (RowAnswer.Refused (tested w)) ∷ test (isRow w c i) (RowAnswer.Refused 13) ∷ [])
     (cond (eqb (bitsFrom (w .slots) (bitmapPlace (w .state) (frontSlot w) c) 0 i) 0) RowAnswer.Null
     (valueAnswer w (frontSlot w) c i))
-    (RowAnswer.Refused 13))
-    (RowAnswer.Refused (tested w))
 
 -- 01: "Any answer that is an enum has a definition." The number of a row's answer, 0 where the read is not refused
 abbrev pub rowRefusal : RowAnswer → ℕ

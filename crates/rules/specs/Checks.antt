@@ -1,12 +1,13 @@
 -- The checks of a pushed batch, 2 to 7, in their order, with the first column and row at fault.
 use Prim.Native.Nat.{ℕ, _+_, _*_, _/_}
 use mathlib.Core.Bool.{Bool, true, false, _&&_, not, cond}
-use mathlib.Core.List.{List}
+use mathlib.Core.List.{List, [], _∷_}
 use mathlib.Core.Option.{Option, none, some}
 use lib.ListN.{length}
 use lib.Dec.{leb, eqb}
 use Rattle.search.specs.First.{first}
 use Rattle.search.specs.Every.{every}
+use Rattle.search.specs.InOrder.{test, inOrder}
 use Rattle.words.specs.Word.{word32}
 use Rattle.kinds.specs.Kind.{isView}
 use Rattle.views.specs.View.{isValid}
@@ -79,8 +80,9 @@ rowFault c (some i) = fault 7 c i
 -- the first fault of column c. 01: "then per column 4, 5, 6, and 7 by rows"
 unfoldable pub columnFault : World → Batch → ℕ → Option Fault
 columnFault w b c =
-    cond (keepsRules w b c) (cond (liesInBody w b c) (cond (allHeld w b c) (rowFault c (badRow w b c)) (fault 6 c 0)) (fault 5 c 0))
-    (fault 4 c 0)
+    inOrder
+    (test (keepsRules w b c) (fault 4 c 0) ∷ test (liesInBody w b c) (fault 5 c 0) ∷ test (allHeld w b c) (fault 6 c 0) ∷ [])
+    (rowFault c (badRow w b c))
 
 abbrev pub isFault : Option Fault → Bool
 isFault none = false
@@ -93,8 +95,6 @@ ofColumn f (some c) = f c
 -- the first fault of the batch. 01: "then 2, 3, then per column ..": 2 "record bytes not 32 x columns", 3 "rows over R"
 unfoldable pub batchFault : World → Batch → Option Fault
 batchFault w b =
-    cond (eqb (length (b .records)) (32 * w .state .columns))
-    (cond (leb (b .rows) (w .state .rows .0))
+    inOrder
+    (test (eqb (length (b .records)) (32 * w .state .columns)) (fault 2 0 0) ∷ test (leb (b .rows) (w .state .rows .0)) (fault 3 0 0) ∷ [])
     (ofColumn (columnFault w b) (first (λ c. isFault (columnFault w b c)) (w .state .columns)))
-    (fault 3 0 0))
-    (fault 2 0 0)

@@ -8,6 +8,7 @@ pub mod Steps
 pub mod Leaves
 pub mod Views
 pub mod Push
+pub mod Turns
 pub mod Calls
 pub mod Held
 pub mod Stays

@@ -28,7 +28,7 @@ use Rattle.state.specs.Layout.{tally, isViews, listLength}
 use Rattle.rules.specs.declared.Way.{Way}
 use Rattle.rules.specs.Batch.{Batch, recordOf, listOf, rowView, ideal, way}
 use Rattle.rules.specs.Steps.{Res, counting, listing}
-use Rattle.rules.specs.Views.{filling, bitsLaid, valuesLaid, bitsCopied, valuesCopied, isOpen, openNumber, openFilled, openRest, closed, opening, blockOpened, viewsFrom, viewsCompacted, walked, partCompacted, listAttached, viewsRaised, partAttached, byWay, columnCopied, partCopied}
+use Rattle.rules.specs.Views.{span, filling, bitsLaid, valuesLaid, bitsCopied, valuesCopied, isOpen, openNumber, openFilled, openRest, closed, opening, blockOpened, viewsFrom, viewsCompacted, walked, partCompacted, listAttached, viewsRaised, partAttached, byWay, columnCopied, partCopied}
 use Rattle.rules.specs.Copies.{startsFit}
 use Rattle.rules.specs.CopyLaws.{length-viewsPut, length-bytesCarried}
 use Rattle.rules.specs.Held.{Among, one-of, among-more, Holds, held, refused, holds-more, holds-bind, holds-cond, holds-each, holds-among}
@@ -45,11 +45,11 @@ unfolding listing counting
 listing-beside w slot c number = beside-state w _ refl (length-withWord32 (w .slots) _ number) refl (length-withTally (w .books) (tally (w .state) slot (c + 1)) _)
 
 -- bits and bytes
-pub bits-beside : (w : World) (b : Batch) (c slot at from n : ℕ) → Beside w (bitsCopied w b c slot at from n)
+pub bits-beside : (w : World) (b : Batch) (c slot at from n : ℕ) → Beside w (bitsCopied w b slot (span c at from n))
 unfolding bitsCopied bitsLaid
 bits-beside w b c slot at from n = beside-state w _ refl (length-lay _ _ (w .slots)) refl refl
 
-pub values-beside : (w : World) (b : Batch) (c slot at from n : ℕ) → Beside w (valuesCopied w b c slot at from n)
+pub values-beside : (w : World) (b : Batch) (c slot at from n : ℕ) → Beside w (valuesCopied w b slot (span c at from n))
 unfolding valuesCopied valuesLaid
 values-beside w b c slot at from n = beside-state w _ refl (length-lay _ _ (w .slots)) refl refl
 
@@ -119,7 +119,7 @@ pub after : {w v : World} {N : ℕ → Type 0} {r : Res} → Beside w v → Hold
 after p h = holds-more h (λ u q. beside-trans p q) (λ n m. m)
 
 -- n views copied into the open block
-pub views-holds : (w : World) (b : Batch) (c at from n : ℕ) → Holds (Beside w) (Among (8 ∷ [])) (viewsCompacted w b c at from n)
+pub views-holds : (w : World) (b : Batch) (c at from n : ℕ) → Holds (Beside w) (Among (8 ∷ [])) (viewsCompacted w b (span c at from n))
 unfolding viewsCompacted
 views-holds w b c at from n =
     holds-cond (startsFit (viewsFrom w b c from) (openFilled w c) n)
@@ -130,7 +130,7 @@ abbrev parts : List ℕ
 parts = 8 ∷ 10 ∷ 11 ∷ 12 ∷ 14 ∷ []
 
 -- a part compacted
-pub compacted-holds : (w : World) (b : Batch) (c at from n : ℕ) → Holds (Beside w) (Among (8 ∷ 10 ∷ 11 ∷ 12 ∷ 14 ∷ [])) (partCompacted w b c at from n)
+pub compacted-holds : (w : World) (b : Batch) (c at from n : ℕ) → Holds (Beside w) (Among (8 ∷ 10 ∷ 11 ∷ 12 ∷ 14 ∷ [])) (partCompacted w b (span c at from n))
 unfolding partCompacted
 compacted-holds w b c at from n =
     holds-cond (isOpen w c)
@@ -140,7 +140,7 @@ compacted-holds w b c at from n =
     after q (copies u _ _ _)))))
     (λ h. holds-bind _ (opens w (ideal w b c)) (λ v p. after p (copies v at from n)))
   where
-    copies : (v : World) (at from n : ℕ) → Holds (Beside v) (Among parts) (viewsCompacted v b c at from n)
+    copies : (v : World) (at from n : ℕ) → Holds (Beside v) (Among parts) (viewsCompacted v b (span c at from n))
     copies v at from n = holds-among parts tt (views-holds v b c at from n)
 
     opens : (v : World) (min : ℕ) → Holds (Beside v) (Among parts) (blockOpened v c min)
@@ -154,12 +154,12 @@ attached-beside w b c =
     (counting-beside _ (filling w) (c + 1) _)
 
 -- n views raised
-pub raised-beside : (w : World) (b : Batch) (c k at from n : ℕ) → Beside w (viewsRaised w b c k at from n)
+pub raised-beside : (w : World) (b : Batch) (c k at from n : ℕ) → Beside w (viewsRaised w b k (span c at from n))
 unfolding viewsRaised
 raised-beside w b c k at from n = beside-state w _ refl (length-viewsPut _ (w .slots) _ n) refl refl
 
 -- a part attached
-pub attached-holds : (w : World) (b : Batch) (c at from n : ℕ) → Holds (Beside w) (Among (10 ∷ [])) (partAttached w b c at from n)
+pub attached-holds : (w : World) (b : Batch) (c at from n : ℕ) → Holds (Beside w) (Among (10 ∷ [])) (partAttached w b (span c at from n))
 unfolding partAttached
 attached-holds w b c at from n =
     holds-cond (leb (listLength (closed w c) (filling w) c + recordOf b c .count) (w .state .lists))
@@ -167,7 +167,7 @@ attached-holds w b c at from n =
     (λ h. refused (one-of (10 ∷ []) 10 tt))
 
 -- a part of a column, by its way; a part of every column
-way-holds : (w : World) (b : Batch) (c at from n : ℕ) (y : Way) → Holds (Beside w) (Among parts) (byWay w b c at from n y)
+way-holds : (w : World) (b : Batch) (c at from n : ℕ) (y : Way) → Holds (Beside w) (Among parts) (byWay w b (span c at from n) y)
 way-holds w b c at from n Way.Copied = held (values-beside w b c (filling w) at from n)
 way-holds w b c at from n Way.Attached = holds-among parts tt (attached-holds w b c at from n)
 way-holds w b c at from n Way.Compacted = compacted-holds w b c at from n

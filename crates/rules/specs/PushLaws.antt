@@ -7,7 +7,7 @@ use mathlib.Core.List.{List, [], _∷_}
 use mathlib.Core.Option.{Option, none, some}
 use native.Mathlib.Omega.{arith}
 use lib.Dec.{ltb, leb, eqb}
-use borrow.Author.Tests.{ltb-true, ltb-false, leb-false, eqb-true, eqb-false, eq-eqb, ne-eqb}
+use borrow.Author.Tests.{ltb-true, ltb-false, leb-false, eqb-true, eqb-false, lt-ltb, le-ltb, eq-eqb, ne-eqb}
 use Rattle.search.specs.Cases.{by-cond}
 use Rattle.search.specs.Every.{every}
 use Rattle.state.specs.declared.BatchCoalescer.{BatchCoalescer}
@@ -18,10 +18,11 @@ use Rattle.rules.specs.declared.Fault.{Fault}
 use Rattle.rules.specs.Checks.{isFault, batchFault}
 use Rattle.rules.specs.Ranges.{fitsSetUp, stateInRange, tested}
 use Rattle.rules.specs.TestLaws.{TestedCase, tested-case}
-use Rattle.rules.specs.Steps.{ok, refuse, bind, counting, queueing}
+use Rattle.rules.specs.Steps.{Res, ok, refuse, bind, counting, queueing}
 use Rattle.rules.specs.Views.{filling}
-use Rattle.rules.specs.Push.{allClosed, finished, columnWhole, columnsWhole, queuedWhole, partTaken, space, ifFull, coalesced, overLimit, stepped, pushed}
-use Rattle.rules.specs.Held.{Among, one-of, among-more, Holds, held, refused, holds-bind, holds-more, holds-cond, holds-among}
+use Rattle.rules.specs.Push.{allClosed, finished, columnWhole, columnsWhole, queuedWhole, partTaken, ifFull, fullParts, inParts, cutUp, overLimit, stepped, pushed}
+use Rattle.rules.specs.Turns.{space, coalesced, coalesced-turn, coalesced-last}
+use Rattle.rules.specs.Held.{Among, one-of, among-more, Holds, held, refused, holds-ok, holds-bind, holds-more, holds-cond, holds-among}
 use Rattle.rules.specs.Stays.{same-counts, Beside, beside-refl, beside-trans, each-beside, beside-kept, Kept, kept-trans, Stays, stays-refl}
 use Rattle.rules.specs.PartLaws.{counting-beside, bits-beside, values-beside, closed-beside, attached-beside, part-holds}
 use Rattle.rules.specs.CheckLaws.{fault-number}
@@ -207,6 +208,33 @@ module _ (w₀ : World) (b : Batch) where
       holds-more (finished-holds v) (λ u f. record { kept = kept-trans (e .kept) (f .kept); buffered = f .buffered })
       (λ n a. among-more stepNumbers tt a))
 
+  -- the parts one behind another are the turns: behind each nothing is buffered, so that T rows fit
+  parts-turns : (turns : ℕ) (w : World) (from : ℕ) → inParts (fullParts turns (w .state .target .0) (w .state .buffered .0) (b .rows - from)) w₀ w b from ≡ coalesced turns w₀ w b from
+  unfolding coalesced fullParts inParts
+  parts-turns zero w from = refl
+  parts-turns (suc turns) w from =
+      go (λ v. parts-turns turns v (from + space w)) (ltb (space w) (b .rows - from)) refl
+    where
+      parts : World → ℕ → ℕ → Res
+      parts v buffered left = inParts (fullParts turns (w .state .target .0) buffered left) w₀ v b (from + space w)
+
+      go : ((v : World) → inParts (fullParts turns (v .state .target .0) (v .state .buffered .0) (b .rows - (from + space w))) w₀ v b (from + space w) ≡ coalesced turns w₀ v b (from + space w)) → (x : Bool) → ltb (space w) (b .rows - from) ≡ x → inParts (fullParts (suc turns) (w .state .target .0) (w .state .buffered .0) (b .rows - from)) w₀ w b from ≡ coalesced (suc turns) w₀ w b from
+      go r false q =
+          rw q (sym (coalesced-last turns w₀ w b from (ltb-false (space w) (b .rows - from) q)))
+      go r true q =
+          rw q (by-turn (bind (partTaken w₀ w b from (space w)) finished) refl)
+          ∙ sym (coalesced-turn turns w₀ w b from (ltb-true (space w) (b .rows - from) q))
+        where
+          by-turn : (y : Res) → bind (partTaken w₀ w b from (space w)) finished ≡ y → bind y (λ v. parts v 0 (b .rows - from - space w)) ≡ bind y (λ v. coalesced turns w₀ v b (from + space w))
+          by-turn (refuse k) e = refl
+          by-turn (ok v) e =
+              let i : Ends w 0 v = holds-ok v (turn-holds w from) e in
+              let l : b .rows - from - space w ≡ b .rows - (from + space w) = omega arith in
+              ap (λ (n : ℕ). parts v 0 n) l
+              ∙ ap (λ (n : ℕ). parts v n (b .rows - (from + space w))) (sym (i .buffered))
+              ∙ ap (λ (t : ℕ). inParts (fullParts turns t (v .state .buffered .0) (b .rows - (from + space w))) w₀ v b (from + space w)) (sym (target-of (i .kept)))
+              ∙ r v
+
   pub coalesced-holds : (turns : ℕ) (w : World) (from : ℕ) → Holds (Coalesces w turns (b .rows - from)) (Among (8 ∷ 9 ∷ 10 ∷ 11 ∷ 12 ∷ 14 ∷ [])) (coalesced turns w₀ w b from)
   unfolding coalesced
   coalesced-holds zero w from = last-holds w zero from (λ h m. omega arith)
@@ -228,6 +256,12 @@ module _ (w₀ : World) (b : Batch) where
 
 -- ---- all the steps
 
+-- steps 3 and 4 of a push, turn by turn
+pub coalesced-is : (w : World) (b : Batch) → cutUp w b ≡ coalesced (b .rows) w w b 0
+unfolding cutUp
+coalesced-is w b =
+    let e : b .rows - 0 ≡ b .rows = omega arith in rw e at (parts-turns w b (b .rows) w 0)
+
 pub ends-stays : {w v : World} → Ends w 0 v → Stays w v
 ends-stays e = record { kept = e .kept; below = λ h. omega (arith, e .buffered, target-of (e .kept)) }
 
@@ -236,9 +270,10 @@ unfolding stepped
 stepped-holds w b =
     go (overLimit (w .state .limit) (b .rows)) refl (eqb (w .state .buffered .0) 0) refl (overLimit (w .state .limit) (w .state .buffered .0)) refl
   where
-    cut : Holds (Stays w) (Among stepNumbers) (coalesced (b .rows) w w b 0)
+    cut : Holds (Stays w) (Among stepNumbers) (cutUp w b)
     cut =
-        holds-more (coalesced-holds w b (b .rows) w 0) (λ v e. record { kept = e .kept; below = λ h. e .below (omega arith) h }) (λ n a. a)
+        rw (coalesced-is w b)
+        (holds-more (coalesced-holds w b (b .rows) w 0) (λ v e. record { kept = e .kept; below = λ h. e .below (omega arith) h }) (λ n a. a))
 
     go : (x : Bool) → overLimit (w .state .limit) (b .rows) ≡ x → (y : Bool) → eqb (w .state .buffered .0) 0 ≡ y → (z : Bool) → overLimit (w .state .limit) (w .state .buffered .0) ≡ z → Holds (Stays w) (Among stepNumbers) (stepped w b)
     go false p y q z r = rw (p, stepped) cut

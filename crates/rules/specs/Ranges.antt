@@ -1,10 +1,11 @@
 -- Set-up and its bounds; the tests 1 and 14 that every later call begins with.
 use Prim.Native.Nat.{ℕ, _+_, _*_}
 use mathlib.Core.Bool.{Bool, true, false, _&&_, not, cond}
-use mathlib.Core.List.{List}
+use mathlib.Core.List.{List, [], _∷_}
 use lib.ListN.{length}
 use lib.Dec.{ltb, leb, eqb}
 use Rattle.search.specs.Every.{every}
+use Rattle.search.specs.InOrder.{test, inOrder}
 use Rattle.words.specs.Word.{word32}
 use Rattle.kinds.specs.declared.Width.{Width}
 use Rattle.kinds.specs.Kind.{widthAt}
@@ -87,4 +88,4 @@ stateInRange w =
 -- the tests that every call after set-up begins with. 01: "Every call after set-up tests 1, then 14". The number of the refusal, and 0 where
 -- there is none
 unfoldable pub tested : World → ℕ
-tested w = cond (fitsSetUp w) (cond (stateInRange w) 0 14) 1
+tested w = inOrder (test (fitsSetUp w) 1 ∷ test (stateInRange w) 14 ∷ []) 0

@@ -1,5 +1,5 @@
 -- The steps of a push, one law for each way out: what is known there, and the result.
-use Prim.Native.Nat.{ℕ, suc, _+_, _-_, _≤_, _<_}
+use Prim.Native.Nat.{ℕ, _+_, _≤_, _<_}
 use mathlib.Core.Path.{_≡_}
 use mathlib.Core.Logic.{_≢_}
 use mathlib.Core.Bool.{true, false}
@@ -10,8 +10,10 @@ use Rattle.state.specs.World.{World}
 use Rattle.state.specs.Layout.{listLength}
 use Rattle.rules.specs.Batch.{Batch, recordOf}
 use Rattle.rules.specs.Steps.{ok, refuse, bind, queueing}
-use Rattle.rules.specs.Views.{filling, closed, blockOpened, listAttached, viewsRaised, partAttached}
-use Rattle.rules.specs.Push.{allClosed, finished, columnsWhole, queuedWhole, partTaken, space, ifFull, coalesced, overLimit, stepped}
+use Rattle.rules.specs.Views.{span, filling, closed, blockOpened, listAttached, viewsRaised, partAttached}
+use Rattle.rules.specs.Push.{allClosed, finished, columnsWhole, queuedWhole, ifFull, overLimit, stepped}
+use Rattle.rules.specs.Turns.{coalesced}
+use Rattle.rules.specs.PushLaws.{coalesced-is}
 
 module _ (w : World) where
   -- ---- finishing
@@ -43,11 +45,11 @@ module _ (w : World) where
   opened-ten c min l = rw (lt-leb (listLength w (filling w) c + 1) (w .state .lists) l)
 
   module _ (b : Batch) (c at from n : ℕ) where
-    pub attached-ten : w .state .lists < listLength (closed w c) (filling w) c + recordOf b c .count → partAttached w b c at from n ≡ refuse 10
+    pub attached-ten : w .state .lists < listLength (closed w c) (filling w) c + recordOf b c .count → partAttached w b (span c at from n) ≡ refuse 10
     unfolding partAttached
     attached-ten l = rw (lt-leb (listLength (closed w c) (filling w) c + recordOf b c .count) (w .state .lists) l)
 
-    pub attached-done : listLength (closed w c) (filling w) c + recordOf b c .count ≤ w .state .lists → partAttached w b c at from n ≡ ok (viewsRaised (listAttached (closed w c) b c) b c (listLength (closed w c) (filling w) c) at from n)
+    pub attached-done : listLength (closed w c) (filling w) c + recordOf b c .count ≤ w .state .lists → partAttached w b (span c at from n) ≡ ok (viewsRaised (listAttached (closed w c) b c) b (listLength (closed w c) (filling w) c) (span c at from n))
     unfolding partAttached
     attached-done l = rw (le-leb (listLength (closed w c) (filling w) c + recordOf b c .count) (w .state .lists) l)
 
@@ -74,23 +76,12 @@ module _ (w : World) where
           every-is (λ c. leb (listLength w (filling w) c + recordOf b c .count) (w .state .lists)) (w .state .columns) (λ c m. le-leb (listLength w (filling w) c + recordOf b c .count) (w .state .lists) (h c m)),
         )
 
--- ---- coalescing: a turn of step 3, and step 4
-
-module _ (turns : ℕ) (w₀ w : World) (b : Batch) (from : ℕ) where
-  pub coalesced-turn : space w < b .rows - from → coalesced (suc turns) w₀ w b from ≡ bind (bind (partTaken w₀ w b from (space w)) finished) (λ v. coalesced turns w₀ v b (from + space w))
-  unfolding coalesced
-  coalesced-turn l = rw (lt-ltb (space w) (b .rows - from) l, coalesced)
-
-  pub coalesced-last : b .rows - from ≤ space w → coalesced (suc turns) w₀ w b from ≡ bind (partTaken w₀ w b from (b .rows - from)) ifFull
-  unfolding coalesced
-  coalesced-last l = rw (le-ltb (space w) (b .rows - from) l, coalesced)
-
 -- ---- step 2
 
 module _ (w : World) (b : Batch) where
   pub stepped-small : overLimit (w .state .limit) (b .rows) ≡ false → stepped w b ≡ coalesced (b .rows) w w b 0
   unfolding stepped
-  stepped-small p = rw (p, stepped)
+  stepped-small p = rw (p, stepped) (coalesced-is w b)
 
   pub stepped-whole : overLimit (w .state .limit) (b .rows) ≡ true → w .state .buffered .0 ≡ 0 → stepped w b ≡ queuedWhole w b
   unfolding stepped
@@ -102,4 +93,4 @@ module _ (w : World) (b : Batch) where
 
   pub stepped-on : overLimit (w .state .limit) (b .rows) ≡ true → w .state .buffered .0 ≢ 0 → overLimit (w .state .limit) (w .state .buffered .0) ≡ false → stepped w b ≡ coalesced (b .rows) w w b 0
   unfolding stepped
-  stepped-on p q r = rw (p, ne-eqb (w .state .buffered .0) 0 q, r, stepped)
+  stepped-on p q r = rw (p, ne-eqb (w .state .buffered .0) 0 q, r, stepped) (coalesced-is w b)

@@ -4,7 +4,9 @@ use mathlib.Core.List.{List}
 use lib.ListN.{set}
 use Rattle.words.specs.Word.{withWord32}
 use Rattle.tallies.specs.Tally.{withTally}
+use Rattle.counts.specs.declared.RowCount.{RowCount}
 use Rattle.state.specs.declared.BatchCoalescer.{BatchCoalescer}
+use Rattle.state.specs.declared.Column.{Column}
 use Rattle.state.specs.declared.Limit.{Limit}
 use Rattle.state.specs.declared.OpenBlock.{OpenBlock}
 use Rattle.blocks.specs.declared.BufferSource.{BufferSource}
@@ -31,9 +33,9 @@ unfoldable pub each : ℕ → (World → ℕ → World) → World → World
 each zero f w = w
 each (suc n) f w = f (each n f w) n
 
--- the state with another limit; with other counts; with another column c
-abbrev pub withLimit : BatchCoalescer → Limit → BatchCoalescer
-withLimit s limit =
+-- the state with what set-up fixed and all else anew
+abbrev pub withRest : BatchCoalescer → Limit → ℕ → ℕ → RowCount → List Column → BatchCoalescer
+withRest s limit place queued buffered column =
     record {
       target = s .target;
       rows = s .rows;
@@ -43,45 +45,23 @@ withLimit s limit =
       numbers = s .numbers;
       pool = s .pool;
       limit = limit;
-      place = s .place;
-      queued = s .queued;
-      buffered = s .buffered;
-      column = s .column;
-    }
-
-abbrev pub withCounts : BatchCoalescer → ℕ → ℕ → ℕ → BatchCoalescer
-withCounts s place queued buffered =
-    record {
-      target = s .target;
-      rows = s .rows;
-      queue = s .queue;
-      columns = s .columns;
-      lists = s .lists;
-      numbers = s .numbers;
-      pool = s .pool;
-      limit = s .limit;
       place = place;
       queued = queued;
-      buffered = record { 0 = buffered };
-      column = s .column;
+      buffered = buffered;
+      column = column;
     }
+
+-- with another limit; with other counts; with another column c
+abbrev pub withLimit : BatchCoalescer → Limit → BatchCoalescer
+withLimit s limit = withRest s limit (s .place) (s .queued) (s .buffered) (s .column)
+
+abbrev pub withCounts : BatchCoalescer → ℕ → ℕ → ℕ → BatchCoalescer
+withCounts s place queued buffered = withRest s (s .limit) place queued (record { 0 = buffered }) (s .column)
 
 abbrev pub withColumn : BatchCoalescer → ℕ → BufferSource → OpenBlock → BatchCoalescer
 withColumn s c source block =
-    record {
-      target = s .target;
-      rows = s .rows;
-      queue = s .queue;
-      columns = s .columns;
-      lists = s .lists;
-      numbers = s .numbers;
-      pool = s .pool;
-      limit = s .limit;
-      place = s .place;
-      queued = s .queued;
-      buffered = s .buffered;
-      column = set (s .column) c (record { kind = columnOf s c .kind; source = source; block = block });
-    }
+    withRest s (s .limit) (s .place) (s .queued) (s .buffered)
+    (set (s .column) c (record { kind = columnOf s c .kind; source = source; block = block }))
 
 -- the world with another state, with other slots, with other books
 abbrev pub inState : World → BatchCoalescer → World

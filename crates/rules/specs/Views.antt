@@ -30,29 +30,33 @@ use Rattle.rules.specs.Steps.{Res, ok, refuse, bind, forEach, withColumn
 abbrev pub filling : World → ℕ
 filling w = w .state .place
 
+-- rows of one column, and where they go: `count` rows of it, from row `from` of the batch on, to row `at` of the slot on
+pub data Span : Type 0 where
+  span : (column at from count : ℕ) → Span
+
 -- ---- validity and values
 
--- slots with n rows of a column from row `from` on: their bits behind the `at` rows of column c of a slot. 01: "spare bits of the last
+-- slots with the bits of a span behind the `at` rows that a slot has. 01: "spare bits of the last
 -- bitmap byte are zero"; ones where there is no bitmap (DECISIONS 9)
-unfoldable pub bitsLaid : BatchCoalescer → List ℕ → ColumnRecord → List ℕ → ℕ → ℕ → ℕ → ℕ → ℕ → List ℕ
-bitsLaid s slots r body c slot at from n =
+unfoldable pub bitsLaid : BatchCoalescer → List ℕ → ColumnRecord → List ℕ → ℕ → Span → List ℕ
+bitsLaid s slots r body slot (span c at from n) =
     lay (bitmapPlace s slot c)
     (appended (read (bitmapPlace s slot c) (bitmapBytes s) slots) at (λ i. bitOf r body (from + i)) n)
     slots
 
 -- and their bytes as they stand in the body. 01: "Values under null rows are copied too."
-unfoldable pub valuesLaid : BatchCoalescer → List ℕ → ColumnRecord → List ℕ → ℕ → ℕ → ℕ → ℕ → ℕ → List ℕ
-valuesLaid s slots r body c slot at from n =
+unfoldable pub valuesLaid : BatchCoalescer → List ℕ → ColumnRecord → List ℕ → ℕ → Span → List ℕ
+valuesLaid s slots r body slot (span c at from n) =
     lay (cellPlace s slot c at) (read (r .values + from * widthOf s c) (n * widthOf s c) body) slots
 
 -- the same of worlds
-unfoldable pub bitsCopied : World → Batch → ℕ → ℕ → ℕ → ℕ → ℕ → World
-bitsCopied w b c slot at from n =
-    inSlots w (bitsLaid (w .state) (w .slots) (recordOf b c) (b .body) c slot at from n)
+unfoldable pub bitsCopied : World → Batch → ℕ → Span → World
+bitsCopied w b slot (span c at from n) =
+    inSlots w (bitsLaid (w .state) (w .slots) (recordOf b c) (b .body) slot (span c at from n))
 
-unfoldable pub valuesCopied : World → Batch → ℕ → ℕ → ℕ → ℕ → ℕ → World
-valuesCopied w b c slot at from n =
-    inSlots w (valuesLaid (w .state) (w .slots) (recordOf b c) (b .body) c slot at from n)
+unfoldable pub valuesCopied : World → Batch → ℕ → Span → World
+valuesCopied w b slot (span c at from n) =
+    inSlots w (valuesLaid (w .state) (w .slots) (recordOf b c) (b .body) slot (span c at from n))
 
 -- ---- blocks
 
@@ -118,11 +122,11 @@ viewsFrom w b c from i = rowView w b c (from + i)
 unfoldable pub longBefore : World → Batch → ℕ → ℕ → ℕ → ℕ
 longBefore w b c from k = longTo (viewsFrom w b c from) k
 
--- n views from `from` on, at row `at` of the slot on. Inline ones stand as they are; the bytes of long ones go into the open block at its
+-- the views of a span. Inline ones stand as they are; the bytes of long ones go into the open block at its
 -- filled length, one behind the other. 01: "Copied bytes go into the open block at its filled length."; "Long views get the new index and
 -- offset."
-unfoldable pub viewsCompacted : World → Batch → ℕ → ℕ → ℕ → ℕ → Res
-viewsCompacted w b c at from n =
+unfoldable pub viewsCompacted : World → Batch → Span → Res
+viewsCompacted w b (span c at from n) =
     cond (startsFit (viewsFrom w b c from) (openFilled w c) n)
     (ok
     (record {
@@ -153,17 +157,24 @@ walked w b c from n rest =
 
 -- 01: "No open block: open one of size for ideal. Ideal fits the open block's rest: use it. Else walk .., copy those, close the
 -- block, open one for ideal minus bytes copied, copy the remainder there, even when it is empty."
-unfoldable pub partCompacted : World → Batch → ℕ → ℕ → ℕ → ℕ → Res
-partCompacted w b c at from n =
-    cond (isOpen w c)
-    (cond (leb (ideal w b c) (openRest w c)) (viewsCompacted w b c at from n) (split (walked w b c from n (openRest w c))))
-    (bind (blockOpened w c (ideal w b c)) (λ v. viewsCompacted v b c at from n))
+unfoldable pub partCompacted : World → Batch → Span → Res
+partCompacted w b (span c at from n) =
+    cond (isOpen w c) (cond (leb (ideal w b c) (openRest w c)) used (split (walked w b c from n (openRest w c)))) anew
   where
+    -- "No open block: open one of size for ideal."
+    anew : Res
+    anew = bind (blockOpened w c (ideal w b c)) (λ v. viewsCompacted v b (span c at from n))
+
+    -- "Ideal fits the open block's rest: use it."
+    used : Res
+    used = viewsCompacted w b (span c at from n)
+
+    -- "Else walk ..": its first k views there, the remainder in a second block
     split : ℕ → Res
     split k =
-        bind (viewsCompacted w b c at from k) (λ v.
+        bind (viewsCompacted w b (span c at from k)) (λ v.
         bind (blockOpened (closed v c) c (ideal w b c - longBefore w b c from k)) (λ u.
-        viewsCompacted u b c (at + k) (from + k) (n - k)))
+        viewsCompacted u b (span c (at + k) (from + k) (n - k))))
 
 -- ---- views attached
 
@@ -171,42 +182,38 @@ partCompacted w b c at from n =
 unfoldable pub listAttached : World → Batch → ℕ → World
 listAttached w b c =
     counting
-    (record {
-      state = w .state;
-      slots = lay (listPlace (w .state) (filling w) c + 4 * listLength w (filling w) c) (listOf b c) (w .slots);
-      pool = w .pool;
-      books = overList listedOne (w .books) (listOf b c) (recordOf b c .count);
-    })
+    (inBooks (inSlots w (lay (listPlace (w .state) (filling w) c + 4 * listLength w (filling w) c) (listOf b c) (w .slots)))
+    (overList listedOne (w .books) (listOf b c) (recordOf b c .count)))
     (filling w)
     (c + 1)
     (listLength w (filling w) c + recordOf b c .count)
 
--- n views from `from` on, with k added to the index of long ones
-unfoldable pub viewsRaised : World → Batch → ℕ → ℕ → ℕ → ℕ → ℕ → World
-viewsRaised w b c k at from n =
+-- the views of a span, with k added to the index of long ones
+unfoldable pub viewsRaised : World → Batch → ℕ → Span → World
+viewsRaised w b k (span c at from n) =
     inSlots w
     (viewsPut (λ i. raisedBy k (rowView w b c (from + i))) (w .slots) (cellPlace (w .state) (filling w) c at) n)
 
 -- 01: "Otherwise: close the open block, attach the whole list, add the earlier list length to the index of long views only.";
 -- "Attaching tests 10, the block it closes counted."
-unfoldable pub partAttached : World → Batch → ℕ → ℕ → ℕ → ℕ → Res
-partAttached w b c at from n =
+unfoldable pub partAttached : World → Batch → Span → Res
+partAttached w b (span c at from n) =
     cond (leb (listLength (closed w c) (filling w) c + recordOf b c .count) (w .state .lists))
-    (ok (viewsRaised (listAttached (closed w c) b c) b c (listLength (closed w c) (filling w) c) at from n))
+    (ok (viewsRaised (listAttached (closed w c) b c) b (listLength (closed w c) (filling w) c) (span c at from n)))
     (refuse 10)
 
 -- ---- a part of a column, and of every column
 
-abbrev pub byWay : World → Batch → ℕ → ℕ → ℕ → ℕ → Way → Res
-byWay w b c at from n Way.Copied = ok (valuesCopied w b c (filling w) at from n)
-byWay w b c at from n Way.Attached = partAttached w b c at from n
-byWay w b c at from n Way.Compacted = partCompacted w b c at from n
+abbrev pub byWay : World → Batch → Span → Way → Res
+byWay w b p Way.Copied = ok (valuesCopied w b (filling w) p)
+byWay w b p Way.Attached = partAttached w b p
+byWay w b p Way.Compacted = partCompacted w b p
 
 -- n rows of column c from row `from` on, behind those buffered. w₀ is the world at the push: 01's "over the whole pushed column" (DECISIONS
 -- 5: decided once, done per part)
 unfoldable pub columnCopied : World → World → Batch → ℕ → ℕ → ℕ → Res
 columnCopied w₀ w b c from n =
-    byWay (bitsCopied w b c (filling w) (w .state .buffered .0) from n) b c (w .state .buffered .0) from n
+    byWay (bitsCopied w b (filling w) (span c (w .state .buffered .0) from n)) b (span c (w .state .buffered .0) from n)
     (cond (isViews (w .state) c) (way w₀ b c) Way.Copied)
 
 -- 01: "copy that many into every column in order"; the rows are then buffered

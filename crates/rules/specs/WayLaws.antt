@@ -14,7 +14,7 @@ use Rattle.state.specs.Layout.{cellPlace}
 use Rattle.rules.specs.declared.Way.{Way}
 use Rattle.rules.specs.Batch.{Batch, rowView, wayOf}
 use Rattle.rules.specs.CopyLaws.{views-read}
-use Rattle.rules.specs.Views.{filling, viewsRaised}
+use Rattle.rules.specs.Views.{span, filling, viewsRaised}
 
 -- 01: "Ideal 0: views copied, list not attached. Actual > 2 x ideal: compact. .. Otherwise: .. attach the whole list"
 pub way-attached : (id ac : ℕ) → (id ≡ 0 → ⊥) → ac ≤ 2 * id → Way.Attached ≡ wayOf id ac
@@ -33,10 +33,10 @@ way-copied id ac h = rw (eq-eqb id 0 h)
 
 -- 01: "add the earlier list length to the index of long views only": row j of n attached views, raised by k
 module _ (w : World) (b : Batch) (c k at from n : ℕ) (room : cellPlace (w .state) (filling w) c at + n * 16 ≤ length (w .slots)) (fits : (j : ℕ) → j < n → ViewWords (raisedBy k (rowView w b c (from + j)))) where
-  pub raised-view : (j : ℕ) → j < n → viewOf (viewsRaised w b c k at from n .slots) (cellPlace (w .state) (filling w) c at + j * 16) ≡ raisedBy k (rowView w b c (from + j))
+  pub raised-view : (j : ℕ) → j < n → viewOf (viewsRaised w b k (span c at from n) .slots) (cellPlace (w .state) (filling w) c at + j * 16) ≡ raisedBy k (rowView w b c (from + j))
   unfolding viewsRaised
   raised-view j l = views-read (λ i. raisedBy k (rowView w b c (from + i))) (w .slots) (cellPlace (w .state) (filling w) c at) n room fits j l
 
   -- an inline view stands as it was: all four of its words
-  pub raised-inline : (j : ℕ) → j < n → rowView w b c (from + j) .length ≤ 12 → viewOf (viewsRaised w b c k at from n .slots) (cellPlace (w .state) (filling w) c at + j * 16) ≡ rowView w b c (from + j)
+  pub raised-inline : (j : ℕ) → j < n → rowView w b c (from + j) .length ≤ 12 → viewOf (viewsRaised w b k (span c at from n) .slots) (cellPlace (w .state) (filling w) c at + j * 16) ≡ rowView w b c (from + j)
   raised-inline j l h = raised-view j l ∙ sym (raise-inline k (rowView w b c (from + j)) h)

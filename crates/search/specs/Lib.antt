@@ -3,4 +3,5 @@ pub mod Cases
 pub mod First
 pub mod FirstLaws
 pub mod Every
+pub mod InOrder
 pub mod Table

@@ -6,8 +6,8 @@ use native.Mathlib.Omega.{arith}
 use Rattle.state.specs.World.{World, world}
 use Rattle.rules.specs.Batch.{Batch}
 use Rattle.rules.specs.Steps.{Res, ok, refuse, bind}
-use Rattle.rules.specs.Push.{finished, partTaken, space, ifFull, coalesced}
-use Rattle.rules.specs.StepLaws.{coalesced-turn}
+use Rattle.rules.specs.Push.{finished, partTaken, ifFull}
+use Rattle.rules.specs.Turns.{space, coalesced, coalesced-turn}
 use Rattle.rules.specs.Held.{holds-ok}
 use Rattle.rules.specs.Stays.{SameSetUp, same-refl, same-trans}
 use Rattle.rules.specs.PushLaws.{Ends, taken-holds, finished-holds}

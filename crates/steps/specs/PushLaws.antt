@@ -8,7 +8,8 @@ use Rattle.state.specs.World.{world}
 use Rattle.state.specs.Layout.{slotsLength}
 use Rattle.rules.specs.Batch.{Batch, batch}
 use Rattle.rules.specs.Steps.{Res}
-use Rattle.rules.specs.Push.{coalesced, stepped}
+use Rattle.rules.specs.Push.{stepped}
+use Rattle.rules.specs.Turns.{coalesced}
 use Rattle.rules.specs.Stays.{same-refl}
 use Rattle.rules.specs.declared.Step.{Step}
 use Rattle.rules.specs.Leaves.{Steps}

@@ -12,7 +12,7 @@ use Rattle.state.specs.Layout.{isViews, listLength}
 use Rattle.rules.specs.declared.ColumnRecord.{ColumnRecord}
 use Rattle.rules.specs.Batch.{Batch, recordOf}
 use Rattle.rules.specs.Steps.{withColumn}
-use Rattle.rules.specs.Views.{filling, closed, partAttached}
+use Rattle.rules.specs.Views.{span, filling, closed, partAttached}
 use Rattle.rules.specs.Stays.{same-column}
 use Rattle.rules.specs.SameLaws.{same-views}
 use Rattle.rules.specs.StepLaws.{attached-ten, attached-done}
@@ -47,7 +47,7 @@ module _ {s : BatchCoalescer} {books : List ℕ} {b : Batch} {c : ℕ} {v : Worl
     joined : n + r .count ≡ listLength (closed v c) (filling v) c + recordOf b c .count
     joined = rw (q, closed-at, closed-length (a .run) c in-world views-in, p)
 
-    pub attached-follows : {k : Column} {t : BatchCoalescer} → n + r .count ≤ s .lists → k ≡ columnOf s c → t ≡ withColumn s c (k .source) OpenBlock.Closed → Follows (partAttached v b c at from m) b (c + 1) (record { state = t; number = 0 }) books
+    pub attached-follows : {k : Column} {t : BatchCoalescer} → n + r .count ≤ s .lists → k ≡ columnOf s c → t ≡ withColumn s c (k .source) OpenBlock.Closed → Follows (partAttached v b (span c at from m)) b (c + 1) (record { state = t; number = 0 }) books
     attached-follows {k} {t} l x z =
         record {
           done = λ o.
@@ -70,7 +70,7 @@ module _ {s : BatchCoalescer} {books : List ℕ} {b : Batch} {c : ℕ} {v : Worl
         fits : listLength (closed v c) (filling v) c + recordOf b c .count ≤ v .state .lists
         fits = omega (arith, joined, a .set-up .lists)
 
-    pub attached-full : {t : BatchCoalescer} → s .lists < n + r .count → Follows (partAttached v b c at from m) b (c + 1) (record { state = t; number = 10 }) books
+    pub attached-full : {t : BatchCoalescer} → s .lists < n + r .count → Follows (partAttached v b (span c at from m)) b (c + 1) (record { state = t; number = 10 }) books
     attached-full l =
         record {
           done = λ o. absurd (omega arith);

@@ -16,7 +16,7 @@ use Rattle.state.specs.World.{World, world, columnOf}
 use Rattle.state.specs.Layout.{isViews, listLength}
 use Rattle.rules.specs.Batch.{Batch, ideal}
 use Rattle.rules.specs.Steps.{bind, withColumn}
-use Rattle.rules.specs.Views.{filling, hasBlock, blockNumber, isOpen, openNumber, openFilled, openRest, closed, blockOpened, longBefore, viewsCompacted, walked, partCompacted}
+use Rattle.rules.specs.Views.{span, filling, hasBlock, blockNumber, isOpen, openNumber, openFilled, openRest, closed, blockOpened, longBefore, viewsCompacted, walked, partCompacted}
 use Rattle.rules.specs.SameLaws.{same-long-before}
 use Rattle.rules.specs.declared.Step.{Step}
 use Rattle.columns.specs.Column.{closedLength}
@@ -50,11 +50,11 @@ module _ {s : BatchCoalescer} {books : List ℕ} {b : Batch} {c : ℕ} {v : Worl
   unfolding closedLength
   closed-none o = rw o
 
-  opens-new : isOpen v c ≡ false → partCompacted v b c at from m ≡ bind (blockOpened v c (ideal v b c)) (λ u. viewsCompacted u b c at from m)
+  opens-new : isOpen v c ≡ false → partCompacted v b (span c at from m) ≡ bind (blockOpened v c (ideal v b c)) (λ u. viewsCompacted u b (span c at from m))
   unfolding partCompacted
   opens-new o = rw o
 
-  pub new-follows : {n : ℕ} {q : Step} {books′ : List ℕ} → columnOf s c .block ≡ OpenBlock.Closed → n ≡ closedLength (world s [] [] books) c → Buffers s books c n (ideal v b c) q books′ → Follows (partCompacted v b c at from m) b (c + 1) q books′
+  pub new-follows : {n : ℕ} {q : Step} {books′ : List ℕ} → columnOf s c .block ≡ OpenBlock.Closed → n ≡ closedLength (world s [] [] books) c → Buffers s books c n (ideal v b c) q books′ → Follows (partCompacted v b (span c at from m)) b (c + 1) q books′
   new-follows {n} {q} {books′} z p t =
       rw (opens-new o)
       (open-follows
@@ -99,13 +99,13 @@ module _ {s : BatchCoalescer} {books : List ℕ} {b : Batch} {c : ℕ} {v : Worl
     live-at : isFree (entryOf (v .books) (openNumber v c)) ≡ false
     live-at = let x = a .live c (k .0) (omega arith) opens in rw number-at (a .alike .free (k .0) (x .0) ∙ x .1)
 
-    uses : ideal v b c ≤ rest → partCompacted v b c at from m ≡ viewsCompacted v b c at from m
+    uses : ideal v b c ≤ rest → partCompacted v b (span c at from m) ≡ viewsCompacted v b (span c at from m)
     unfolding partCompacted
     uses l = rw (o, ← rest-at, le-leb (ideal v b c) rest l)
 
-    pub fits-follows : ideal v b c ≤ rest → Follows (partCompacted v b c at from m) b (c + 1) (record { state = s; number = 0 }) books
+    pub fits-follows : ideal v b c ≤ rest → Follows (partCompacted v b (span c at from m)) b (c + 1) (record { state = s; number = 0 }) books
     fits-follows l =
-        let x : LeavesLists c v (viewsCompacted v b c at from m) = views-make v b c at from m (a .run) h′ y′ o live-at (omega (arith, part-ideal v b c from m there, rest-at)) in
+        let x : LeavesLists c v (viewsCompacted v b (span c at from m)) = views-make v b c at from m (a .run) h′ y′ o live-at (omega (arith, part-ideal v b c from m there, rest-at)) in
         record {
           done = λ d.
               record {
@@ -121,11 +121,11 @@ module _ {s : BatchCoalescer} {books : List ℕ} {b : Batch} {c : ℕ} {v : Worl
     abbrev j : ℕ
     j = walked v b c from m rest
 
-    splits : rest < ideal v b c → partCompacted v b c at from m ≡ bind (viewsCompacted v b c at from j) (λ w. bind (blockOpened (closed w c) c (ideal v b c - longBefore v b c from j)) (λ u. viewsCompacted u b c (at + j) (from + j) (m - j)))
+    splits : rest < ideal v b c → partCompacted v b (span c at from m) ≡ bind (viewsCompacted v b (span c at from j)) (λ w. bind (blockOpened (closed w c) c (ideal v b c - longBefore v b c from j)) (λ u. viewsCompacted u b (span c (at + j) (from + j) (m - j))))
     unfolding partCompacted
     splits l = rw (o, ← rest-at, lt-leb (ideal v b c) rest l)
 
-    first : LeavesLists c v (viewsCompacted v b c at from j)
+    first : LeavesLists c v (viewsCompacted v b (span c at from j))
     first = views-make v b c at from j (a .run) h′ y′ o live-at (omega (arith, walked-rest v b c from m rest, rest-at))
 
     abbrev w : World
@@ -181,7 +181,7 @@ module _ {s : BatchCoalescer} {books : List ℕ} {b : Batch} {c : ℕ} {v : Worl
         ∙ closed-length (first .moves .along .goes .run) c h″ y″
         ∙ ap (λ (slot : ℕ). listLength u slot c) (sym (shuts .along .beside .place))
 
-    pub walk-follows : {n : ℕ} {q : Step} {books′ : List ℕ} → rest < ideal v b c → n ≡ closedLength (world s [] [] books) c → Buffers s books c n (ideal v b c - longBefore v b c from j) q books′ → Follows (partCompacted v b c at from m) b (c + 1) q books′
+    pub walk-follows : {n : ℕ} {q : Step} {books′ : List ℕ} → rest < ideal v b c → n ≡ closedLength (world s [] [] books) c → Buffers s books c n (ideal v b c - longBefore v b c from j) q books′ → Follows (partCompacted v b (span c at from m)) b (c + 1) q books′
     walk-follows {n} {q} {books′} l p t =
         rw (splits l, first .is)
         (open-follows (record { like = like; roomy = roomy; column = h; views = y; source = source-at; put = put-at }) (ideal v b c - longBefore v b c from j) (at + j) (from + j) (m - j) behind

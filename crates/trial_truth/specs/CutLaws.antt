@@ -9,9 +9,10 @@ use Rattle.state.specs.declared.BatchCoalescer.{BatchCoalescer}
 use Rattle.state.specs.World.{World}
 use Rattle.rules.specs.Batch.{Batch, batch}
 use Rattle.rules.specs.Steps.{Res, bind}
-use Rattle.rules.specs.Push.{finished, partTaken, space, ifFull, coalesced}
+use Rattle.rules.specs.Push.{finished, partTaken, ifFull}
+use Rattle.rules.specs.Turns.{space, coalesced, coalesced-turn}
 use Rattle.rules.specs.Stays.{SameSetUp, same-trans}
-use Rattle.rules.specs.StepLaws.{full-finishes, full-not, coalesced-turn}
+use Rattle.rules.specs.StepLaws.{full-finishes, full-not}
 use Rattle.rules.specs.declared.Step.{Step}
 use Rattle.routes.specs.declared.Sources.{Sources}
 use Rattle.routes.specs.TurnLaws.{full-turn, ends-cut}

@@ -17,7 +17,7 @@ use Rattle.state.specs.Layout.{isViews, listLength}
 use Rattle.rules.specs.declared.ColumnRecord.{ColumnRecord}
 use Rattle.rules.specs.declared.Way.{Way}
 use Rattle.rules.specs.Batch.{Batch, batch, recordOf, ideal}
-use Rattle.rules.specs.Views.{partAttached, partCompacted, byWay}
+use Rattle.rules.specs.Views.{span, partAttached, partCompacted, byWay}
 use Rattle.byte_view.specs.declared.Source.{Source}
 use Rattle.rules.specs.Steps.{Res, ok, refuse, withColumn}
 use Rattle.rules.specs.Stays.{SameSetUp}
@@ -112,11 +112,11 @@ pub record Buffers (s : BatchCoalescer) (books : List ℕ) (c n min : ℕ) (q : 
 
 -- a part attached
 pub record TellsAttached (s : BatchCoalescer) (books : List ℕ) (r : ColumnRecord) (c : ℕ) (q : Step) : Type 0 where
-  pub tells : (b : Batch) (v : World) (at from n : ℕ) → r ≡ recordOf b c → isViews s c ≡ true → v .state ≡ s → Like s books b c v → Follows (partAttached v b c at from n) b (c + 1) q books
+  pub tells : (b : Batch) (v : World) (at from n : ℕ) → r ≡ recordOf b c → isViews s c ≡ true → v .state ≡ s → Like s books b c v → Follows (partAttached v b (span c at from n)) b (c + 1) q books
 
 -- a part compacted
 pub record TellsCompacted (s : BatchCoalescer) (books body : List ℕ) (r : ColumnRecord) (size c from n : ℕ) (q : Step) (books′ : List ℕ) : Type 0 where
-  pub tells : (rows : ℕ) (records : List ℕ) (v : World) (at : ℕ) → r ≡ recordOf (batch rows records body) c → from + n ≤ rows → size ≡ ideal v (batch rows records body) c → v .state ≡ s → Like s books (batch rows records body) c v → Follows (partCompacted v (batch rows records body) c at from n) (batch rows records body) (c + 1) q books′
+  pub tells : (rows : ℕ) (records : List ℕ) (v : World) (at : ℕ) → r ≡ recordOf (batch rows records body) c → from + n ≤ rows → size ≡ ideal v (batch rows records body) c → v .state ≡ s → Like s books (batch rows records body) c v → Follows (partCompacted v (batch rows records body) (span c at from n)) (batch rows records body) (c + 1) q books′
 
 -- a column of the batch whose part is tried: its record r, and what was decided of it in the world v of the push
 pub record ColumnBegins (s : BatchCoalescer) (books : List ℕ) (b : Batch) (r : ColumnRecord) (x : Source) (c : ℕ) (v : World) : Type 0 where
@@ -128,4 +128,4 @@ pub record ColumnBegins (s : BatchCoalescer) (books : List ℕ) (b : Batch) (r :
 
 -- its part, the way that was decided
 pub record TellsColumn (s : BatchCoalescer) (books body : List ℕ) (r : ColumnRecord) (x : Source) (c from n : ℕ) (q : Step) (books′ : List ℕ) : Type 0 where
-  pub tells : (rows : ℕ) (records : List ℕ) (v : World) (at : ℕ) → from + n ≤ rows → ColumnBegins s books (batch rows records body) r x c v → Follows (byWay v (batch rows records body) c at from n (x .way)) (batch rows records body) (c + 1) q books′
+  pub tells : (rows : ℕ) (records : List ℕ) (v : World) (at : ℕ) → from + n ≤ rows → ColumnBegins s books (batch rows records body) r x c v → Follows (byWay v (batch rows records body) (span c at from n) (x .way)) (batch rows records body) (c + 1) q books′

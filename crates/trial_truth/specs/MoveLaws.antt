@@ -23,7 +23,7 @@ use Rattle.state.specs.Layout.{isViews, tally, listPlace, cellPlace, listLength
 use Rattle.rules.specs.Batch.{Batch, recordOf, listOf, rowView}
 use Rattle.rules.specs.Copies.{viewsPut, longTo, bytesCarried, startsFit}
 use Rattle.rules.specs.Steps.{ok, counting, listing}
-use Rattle.rules.specs.Views.{filling, isOpen, openNumber, openFilled, openRest, closed, viewsFrom, sourcePlace, longBefore, viewsCompacted, listAttached, viewsRaised}
+use Rattle.rules.specs.Views.{span, filling, isOpen, openNumber, openFilled, openRest, closed, viewsFrom, sourcePlace, longBefore, viewsCompacted, listAttached, viewsRaised}
 use Rattle.rules.specs.Held.{holds-ok}
 use Rattle.rules.specs.Stays.{same-refl}
 use Rattle.rules.specs.PartLaws.{closed-beside, attached-beside, raised-beside, views-holds}
@@ -96,7 +96,7 @@ module _ (v : World) (b : Batch) (c at from n : ℕ) (r : Run v) (h : c < v .sta
   fits = omega (arith, open-capacity c r h y o)
 
   -- the one world that is left, whatever its slots and pool
-  filled : (v′ : World) → v′ .state ≡ v .state → v′ .books ≡ withLength (v .books) k x → viewsCompacted v b c at from n ≡ ok v′ → LeavesLists c v (viewsCompacted v b c at from n)
+  filled : (v′ : World) → v′ .state ≡ v .state → v′ .books ≡ withLength (v .books) k x → viewsCompacted v b (span c at from n) ≡ ok v′ → LeavesLists c v (viewsCompacted v b (span c at from n))
   filled v′ s q e =
       record {
         world = v′;
@@ -139,11 +139,11 @@ module _ (v : World) (b : Batch) (c at from n : ℕ) (r : Run v) (h : c < v .sta
         books = withLength (v .books) k x;
       }
 
-  compacts : viewsCompacted v b c at from n ≡ ok left
+  compacts : viewsCompacted v b (span c at from n) ≡ ok left
   unfolding viewsCompacted
   compacts = rw starts
 
-  pub views-make : LeavesLists c v (viewsCompacted v b c at from n)
+  pub views-make : LeavesLists c v (viewsCompacted v b (span c at from n))
   views-make = filled left refl refl compacts
 
 -- ---- the block closed
@@ -274,7 +274,7 @@ module _ (v : World) (b : Batch) (c at from n : ℕ) (r : Run v) (x : Readable v
   p = attached-moves shut b c run′ h′ x′ l′ (closed-shut v c y)
 
   abbrev raised : World
-  raised = viewsRaised listed b c (listLength shut (filling v) c) at from n
+  raised = viewsRaised listed b (listLength shut (filling v) c) (span c at from n)
 
   raised-state : raised .state ≡ listed .state
   unfolding viewsRaised

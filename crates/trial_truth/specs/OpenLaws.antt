@@ -30,7 +30,7 @@ use Rattle.state.specs.World.{World, world, columnOf}
 use Rattle.state.specs.Layout.{isViews, listLength}
 use Rattle.rules.specs.Batch.{Batch}
 use Rattle.rules.specs.Steps.{ok, refuse, bind, withColumn, inState, inBooks}
-use Rattle.rules.specs.Views.{filling, blockNumber, openNumber, blockOpened, longBefore, viewsCompacted}
+use Rattle.rules.specs.Views.{span, filling, blockNumber, openNumber, blockOpened, longBefore, viewsCompacted}
 use Rattle.rules.specs.Held.{among-not, holds-ok}
 use Rattle.rules.specs.Stays.{Beside, same-refl, same-column}
 use Rattle.rules.specs.SameLaws.{same-views, same-long-before}
@@ -179,7 +179,7 @@ module _ {s : BatchCoalescer} {books : List ℕ} {b : Batch} {c : ℕ} {v : Worl
       live-here : isFree (entryOf (u .books) (openNumber u c)) ≡ false
       live-here = rw number-here (ap isFree (done .same) ∙ opened-live (room .start) size)
 
-      fills : LeavesLists c u (viewsCompacted u b c at from m)
+      fills : LeavesLists c u (viewsCompacted u b (span c at from m))
       fills =
           views-make u b c at from m (new .goes .run) (along-in beside c h′) (along-views beside c y′) (new .is-open) live-here
           (omega (arith, l, new .rest, same-long-before v u b (beside .set-up) c from m))
@@ -243,7 +243,7 @@ module _ {s : BatchCoalescer} {books : List ℕ} {b : Batch} {c : ℕ} {v : Worl
             apart = λ d f k g p o x. a .apart d f k g p (was g o) (was (omega arith) x);
           }
 
-      reached : {q : Step} {books′ : List ℕ} → Took s books c min room q books′ → Reached (bind (blockOpened v c min) (λ x. viewsCompacted x b c at from m)) (q .state) books′ b (c + 1)
+      reached : {q : Step} {books′ : List ℕ} → Took s books c min room q books′ → Reached (bind (blockOpened v c min) (λ x. viewsCompacted x b (span c at from m))) (q .state) books′ b (c + 1)
       reached {q} {books′} k =
           record {
             world = w;
@@ -258,10 +258,10 @@ module _ {s : BatchCoalescer} {books : List ℕ} {b : Batch} {c : ℕ} {v : Worl
 
   -- ---- refused in both, or opened in both
 
-  pub open-follows : {n : ℕ} {q : Step} {books′ : List ℕ} → n ≡ listLength v (filling v) c → Buffers s books c n min q books′ → Follows (bind (blockOpened v c min) (λ x. viewsCompacted x b c at from m)) b (c + 1) q books′
+  pub open-follows : {n : ℕ} {q : Step} {books′ : List ℕ} → n ≡ listLength v (filling v) c → Buffers s books c n min q books′ → Follows (bind (blockOpened v c min) (λ x. viewsCompacted x b (span c at from m))) b (c + 1) q books′
   open-follows {n} {q} {books′} e t = go (decLt n (s .lists))
     where
-      stopped : (k : ℕ) → k ≢ 0 → q .number ≡ k → blockOpened v c min ≡ refuse k → Follows (bind (blockOpened v c min) (λ x. viewsCompacted x b c at from m)) b (c + 1) q books′
+      stopped : (k : ℕ) → k ≢ 0 → q .number ≡ k → blockOpened v c min ≡ refuse k → Follows (bind (blockOpened v c min) (λ x. viewsCompacted x b (span c at from m))) b (c + 1) q books′
       stopped k z p o =
           record {
             done = λ x. absurd (z (sym p ∙ x));
@@ -271,7 +271,7 @@ module _ {s : BatchCoalescer} {books : List ℕ} {b : Batch} {c : ℕ} {v : Worl
       refused : (k : ℕ) → n < s .lists → blockRoom books (s .numbers) (s .pool .0) size ≡ Chosen.Refused k → blockOpened v c min ≡ refuse k
       refused k g o = opened-not k (omega (arith, e, a .set-up .lists)) o
 
-      by : (x : Chosen) → n < s .lists → blockRoom books (s .numbers) (s .pool .0) size ≡ x → Follows (bind (blockOpened v c min) (λ x. viewsCompacted x b c at from m)) b (c + 1) q books′
+      by : (x : Chosen) → n < s .lists → blockRoom books (s .numbers) (s .pool .0) size ≡ x → Follows (bind (blockOpened v c min) (λ x. viewsCompacted x b (span c at from m))) b (c + 1) q books′
       by (Chosen.Refused k) g o =
           stopped k (among-not 0 refl (block-among books (s .numbers) (s .pool .0) size k o)) (t .refused g k o) (refused k g o)
       by (Chosen.At room) g o =
@@ -281,7 +281,7 @@ module _ {s : BatchCoalescer} {books : List ℕ} {b : Batch} {c : ℕ} {v : Worl
             not = λ x. absurd (x (k .number));
           }
 
-      go : Dec (n < s .lists) → Follows (bind (blockOpened v c min) (λ x. viewsCompacted x b c at from m)) b (c + 1) q books′
+      go : Dec (n < s .lists) → Follows (bind (blockOpened v c min) (λ x. viewsCompacted x b (span c at from m))) b (c + 1) q books′
       go (yes g) = by (blockRoom books (s .numbers) (s .pool .0) size) g refl
       go (no g) =
           stopped 10 (λ z. omega arith) (t .full (omega arith)) (opened-ten v c min (omega (arith, e, a .set-up .lists)))

@@ -16,7 +16,7 @@ use Rattle.rules.specs.declared.ColumnRecord.{ColumnRecord}
 use Rattle.rules.specs.declared.Way.{Way}
 use Rattle.rules.specs.Batch.{Batch, batch, recordOf, ideal, way}
 use Rattle.rules.specs.Steps.{Res, ok, refuse, bind, forEach, withCounts, buffering}
-use Rattle.rules.specs.Views.{filling, bitsCopied, byWay, columnCopied, partCopied}
+use Rattle.rules.specs.Views.{span, filling, bitsCopied, byWay, columnCopied, partCopied}
 use Rattle.rules.specs.Push.{partTaken}
 use Rattle.rules.specs.Stays.{SameSetUp, same-trans, same-counts}
 use Rattle.rules.specs.SameLaws.{same-views, same-ideal}
@@ -49,11 +49,11 @@ each-stops (suc n) c f w k l e = go (λ m. each-stops n c f w k m e) (decLt n c)
 
 -- ---- one column more
 
-bits-state : (v : World) (b : Batch) (c at from n : ℕ) → bitsCopied v b c (filling v) at from n .state ≡ v .state
+bits-state : (v : World) (b : Batch) (c at from n : ℕ) → bitsCopied v b (filling v) (span c at from n) .state ≡ v .state
 unfolding bitsCopied
 bits-state v b c at from n = refl
 
-bits-books : (v : World) (b : Batch) (c at from n : ℕ) → bitsCopied v b c (filling v) at from n .books ≡ v .books
+bits-books : (v : World) (b : Batch) (c at from n : ℕ) → bitsCopied v b (filling v) (span c at from n) .books ≡ v .books
 unfolding bitsCopied
 bits-books v b c at from n = refl
 
@@ -77,7 +77,7 @@ module _ {s : BatchCoalescer} {books : List ℕ} {x : Sources} {records body : L
       u = z .world
 
       abbrev bits : World
-      bits = bitsCopied u b c (filling u) (u .state .buffered .0) from n
+      bits = bitsCopied u b (filling u) (span c (u .state .buffered .0) from n)
 
       same-back : SameSetUp (w₀ .state) (u .state)
       same-back = same-trans (a .same) (same-trans e (z .like .set-up))
@@ -106,7 +106,7 @@ module _ {s : BatchCoalescer} {books : List ℕ} {x : Sources} {records body : L
           (bits-state u b c (u .state .buffered .0) from n)
           (bits-books u b c (u .state .buffered .0) from n)
 
-      follows : Follows (byWay bits b c (u .state .buffered .0) from n (getD (x .column) c noSource .way)) b (c + 1) q books″
+      follows : Follows (byWay bits b (span c (u .state .buffered .0) from n) (getD (x .column) c noSource .way)) b (c + 1) q books″
       follows =
           o .tells rows records bits (u .state .buffered .0) l
           (record {
@@ -117,11 +117,11 @@ module _ {s : BatchCoalescer} {books : List ℕ} {x : Sources} {records body : L
             like = bits-like;
           })
 
-      copied : columnCopied w₀ u b c from n ≡ byWay bits b c (u .state .buffered .0) from n (getD (x .column) c noSource .way)
+      copied : columnCopied w₀ u b c from n ≡ byWay bits b (span c (u .state .buffered .0) from n) (getD (x .column) c noSource .way)
       unfolding columnCopied
       copied = rw way-at
 
-      next : forEach (c + 1) (λ u d. columnCopied w₀ u b d from n) v ≡ byWay bits b c (u .state .buffered .0) from n (getD (x .column) c noSource .way)
+      next : forEach (c + 1) (λ u d. columnCopied w₀ u b d from n) v ≡ byWay bits b (span c (u .state .buffered .0) from n) (getD (x .column) c noSource .way)
       next =
           each-more c (λ u d. columnCopied w₀ u b d from n) v
           ∙ ap (λ (y : Res). bind y (λ u. columnCopied w₀ u b c from n)) (z .is)

@@ -22,7 +22,7 @@ use Rattle.rules.specs.declared.Way.{Way}
 use Rattle.rules.specs.Batch.{Batch, batch, recordOf, valuePlace, ideal}
 use Rattle.rules.specs.Copies.{viewsAt, longTo}
 use Rattle.rules.specs.Steps.{withColumn}
-use Rattle.rules.specs.Views.{filling, longBefore, walked, valuesCopied}
+use Rattle.rules.specs.Views.{span, filling, longBefore, walked, valuesCopied}
 use Rattle.rules.specs.declared.Step.{Step}
 use Rattle.columns.specs.Column.{closedLength}
 use Rattle.push_safety.specs.StepGoes.{values-goes}
@@ -91,11 +91,11 @@ module _ {s : BatchCoalescer} {books body : List ℕ} {r : ColumnRecord} {size c
 
 -- ---- one of the three ways
 
-copied-state : (v : World) (b : Batch) (c at from n : ℕ) → valuesCopied v b c (filling v) at from n .state ≡ v .state
+copied-state : (v : World) (b : Batch) (c at from n : ℕ) → valuesCopied v b (filling v) (span c at from n) .state ≡ v .state
 unfolding valuesCopied
 copied-state v b c at from n = refl
 
-copied-books : (v : World) (b : Batch) (c at from n : ℕ) → valuesCopied v b c (filling v) at from n .books ≡ v .books
+copied-books : (v : World) (b : Batch) (c at from n : ℕ) → valuesCopied v b (filling v) (span c at from n) .books ≡ v .books
 unfolding valuesCopied
 copied-books v b c at from n = refl
 
@@ -112,7 +112,7 @@ module _ {s : BatchCoalescer} {books body : List ℕ} {r : ColumnRecord} {x : So
             (record {
               done = λ o.
                   record {
-                    world = valuesCopied v (batch rows records body) c (filling v) at from n;
+                    world = valuesCopied v (batch rows records body) (filling v) (span c at from n);
                     is = refl;
                     state = copied-state v (batch rows records body) c at from n ∙ g .state;
                     like =

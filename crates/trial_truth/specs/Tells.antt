@@ -11,7 +11,8 @@ use Rattle.state.specs.Layout.{isViews}
 use Rattle.rules.specs.Batch.{Batch, batch}
 use Rattle.rules.specs.Steps.{Res, bind, forEach, withColumn}
 use Rattle.rules.specs.Views.{columnCopied}
-use Rattle.rules.specs.Push.{finished, queuedWhole, partTaken, ifFull, coalesced, stepped}
+use Rattle.rules.specs.Push.{finished, queuedWhole, partTaken, ifFull, stepped}
+use Rattle.rules.specs.Turns.{coalesced}
 use Rattle.rules.specs.Stays.{SameSetUp}
 use Rattle.rules.specs.declared.Step.{Step}
 use Rattle.routes.specs.declared.Sources.{Sources}

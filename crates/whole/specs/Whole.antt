@@ -8,7 +8,7 @@ use Rattle.state.specs.World.{World, world}
 use Rattle.state.specs.Layout.{valuesPlace, slotsLength, listLength}
 use Rattle.rules.specs.Batch.{Batch, recordOf}
 use Rattle.rules.specs.Steps.{bind, each}
-use Rattle.rules.specs.Views.{filling, bitsCopied, valuesCopied}
+use Rattle.rules.specs.Views.{span, filling, bitsCopied, valuesCopied}
 use Rattle.rules.specs.Push.{finished, columnWhole, queuedWhole}
 use Rattle.rules.specs.declared.Step.{Step}
 use Rattle.rules.specs.Leaves.{Steps}
@@ -29,7 +29,7 @@ pub record Rowed (s : BatchCoalescer) (slots : List ℕ) (b : Batch) (c place : 
 
 -- column c but for its list
 abbrev pub rowsWhole : World → Batch → ℕ → World
-rowsWhole v b c = valuesCopied (bitsCopied v b c (filling v) 0 0 (b .rows)) b c (filling v) 0 0 (b .rows)
+rowsWhole v b c = valuesCopied (bitsCopied v b (filling v) (span c 0 0 (b .rows))) b (filling v) (span c 0 0 (b .rows))
 
 -- the slots with those rows laid, whatever pool and books stand beside them
 pub record LaysRows (s : BatchCoalescer) (slots : List ℕ) (b : Batch) (c : ℕ) (slots′ : List ℕ) : Type 0 where

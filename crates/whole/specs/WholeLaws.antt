@@ -16,7 +16,7 @@ use Rattle.state.specs.Layout.{widthOf, bitmapBytes}
 use Rattle.layout.specs.Few.{Few}
 use Rattle.rules.specs.declared.ColumnRecord.{ColumnRecord}
 use Rattle.rules.specs.Batch.{Batch, batch, recordOf, hasBitmap}
-use Rattle.rules.specs.Views.{filling, bitsCopied, listAttached}
+use Rattle.rules.specs.Views.{span, filling, bitsCopied, listAttached}
 use Rattle.rules.specs.Push.{columnWhole}
 use Rattle.push_safety.specs.Run.{ColumnReads}
 use Rattle.push_safety.specs.TestedLaws.{Bounds, bounds-say}
@@ -76,7 +76,7 @@ module _ {s : BatchCoalescer} {slots : List ℕ} {rows : ℕ} {records body : Li
 
 pub rows-firm : (v : World) (b : Batch) (c : ℕ) → Firm v → FirmGoes v (rowsWhole v b c)
 rows-firm v b c f =
-    let a : FirmGoes v (bitsCopied v b c (filling v) 0 0 (b .rows)) = bits-firm b c (filling v) 0 0 (b .rows) f in
+    let a : FirmGoes v (bitsCopied v b (filling v) (span c 0 0 (b .rows))) = bits-firm b c (filling v) 0 0 (b .rows) f in
     firm-trans a (values-firm b c (filling v) 0 0 (b .rows) (a .firm))
 
 pub whole-is : (v : World) (b : Batch) (c : ℕ) → columnWhole v b c ≡ listAttached (rowsWhole v b c) b c

@@ -15,7 +15,7 @@ use Rattle.rules.specs.Ranges.{inBounds, fitsSetUp, hasOpen, columnInRange, lis
 use Rattle.rules.specs.Steps.{forEach, each, counting, listing, queueing}
 use Rattle.rules.specs.Copies.{viewsPut, longTo, bytesCarried, startsFit}
 use Rattle.rules.specs.Views.{bitsLaid, valuesLaid, bitsCopied, valuesCopied, openNumber, openFilled, openRest, closed, blockOpened, sourcePlace, viewsCompacted, longBefore, walked, partCompacted, listAttached, viewsRaised, partAttached, columnCopied, partCopied}
-use Rattle.rules.specs.Push.{allClosed, finished, columnWhole, columnsWhole, queuedWhole, partTaken, ifFull, coalesced, stepped, pushed}
+use Rattle.rules.specs.Push.{allClosed, finished, columnWhole, columnsWhole, queuedWhole, partTaken, ifFull, fullParts, inParts, cutUp, stepped, pushed}
 use Rattle.rules.specs.Calls.{Answered, columnsFor, newState, setUpCall, pushCall}
 use Rattle.state.specs.World.{columnOf}
 use Rattle.state.specs.Layout.{widthOf, isViews, valuesBytes, bitmapBytes, listBytes, columnsBytes, slotBytes, valuesPlace, bitmapPlace, listPlace, cellPlace, slotsLength, booksLength, rowsIn, listLength, nextSlot, slotBefore, queuedSlot}
@@ -212,5 +212,5 @@ table =
 
 -- every row of the table holds of the definitions
 pub worked : (d : Case) (k : ℕ) → k < length table → Meant (getD table k d)
-unfolding right answers recordOf hasBitmap listedNumber listOf bytesListed listedBytes valuePlace rowView bitOf rowBit sumTo ideal actual wayOf way isRuled keepsRules inBody bitmapNeed liesWithin liesInBody heldAll allHeld validRow badRow columnFault batchFault inBounds fitsSetUp hasOpen columnInRange listInRange slotInRange stateInRange tested′rules forEach each counting listing queueing bitsLaid valuesLaid bitsCopied valuesCopied openNumber openFilled openRest closed blockOpened sourcePlace viewsPut longTo bytesCarried startsFit viewsCompacted longBefore walked partCompacted listAttached viewsRaised partAttached columnCopied partCopied allClosed finished columnWhole columnsWhole queuedWhole partTaken ifFull coalesced stepped pushed columnsFor newState setUpCall pushCall columnOf widthOf isViews valuesBytes bitmapBytes listBytes columnsBytes slotBytes valuesPlace bitmapPlace listPlace cellPlace slotsLength booksLength rowsIn listLength nextSlot slotBefore queuedSlot upTo listedAt bufferAt cellOf slotCell slotRow slotRows queuedBatches bufferedRows doubled enough doublings grown kept asked usedOf entryOf withEntry isFree isFreeAt shareByte occupies lowestFree clearAt lowestGap withUsed taken oneMore withListings listedOne overList filledBytes withLength chosen isZero blockRoom openedAs opened isHeld fitsIn inRange carried tallyPlace tallyOf withTally viewOf withView inlineBytes zeroFrom isPadded inBuffer isValid shows longLength repointed raisedBy bitIn bitAt bitsFrom byteWith withBit appended kindOf widthAt isView wordOf word32 withWord32 read put lay firstFrom every wordBytes wordsBytes fresh′ numbers numbered court pushes bytesOfCell bytesOfRow bytesOfRows viewCourt sample holding filledBlock viewWords viewed left twice squeezed zeroWords fiveTimes lessThanIdeal lastBlock mixed behind
+unfolding right answers recordOf hasBitmap listedNumber listOf bytesListed listedBytes valuePlace rowView bitOf rowBit sumTo ideal actual wayOf way isRuled keepsRules inBody bitmapNeed liesWithin liesInBody heldAll allHeld validRow badRow columnFault batchFault inBounds fitsSetUp hasOpen columnInRange listInRange slotInRange stateInRange tested′rules forEach each counting listing queueing bitsLaid valuesLaid bitsCopied valuesCopied openNumber openFilled openRest closed blockOpened sourcePlace viewsPut longTo bytesCarried startsFit viewsCompacted longBefore walked partCompacted listAttached viewsRaised partAttached columnCopied partCopied allClosed finished columnWhole columnsWhole queuedWhole partTaken ifFull fullParts inParts cutUp stepped pushed columnsFor newState setUpCall pushCall columnOf widthOf isViews valuesBytes bitmapBytes listBytes columnsBytes slotBytes valuesPlace bitmapPlace listPlace cellPlace slotsLength booksLength rowsIn listLength nextSlot slotBefore queuedSlot upTo listedAt bufferAt cellOf slotCell slotRow slotRows queuedBatches bufferedRows doubled enough doublings grown kept asked usedOf entryOf withEntry isFree isFreeAt shareByte occupies lowestFree clearAt lowestGap withUsed taken oneMore withListings listedOne overList filledBytes withLength chosen isZero blockRoom openedAs opened isHeld fitsIn inRange carried tallyPlace tallyOf withTally viewOf withView inlineBytes zeroFrom isPadded inBuffer isValid shows longLength repointed raisedBy bitIn bitAt bitsFrom byteWith withBit appended kindOf widthAt isView wordOf word32 withWord32 read put lay firstFrom every wordBytes wordsBytes fresh′ numbers numbered court pushes bytesOfCell bytesOfRow bytesOfRows viewCourt sample holding filledBlock viewWords viewed left twice squeezed zeroWords fiveTimes lessThanIdeal lastBlock mixed behind
 worked d k h = right→meant k (getD table k d) (at-entry right table d tt k h)

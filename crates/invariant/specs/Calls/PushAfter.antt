@@ -16,9 +16,10 @@ use Rattle.rules.specs.Checks.{validRow, batchFault}
 use Rattle.rules.specs.CheckLaws.{batch-good, fault-number}
 use Rattle.rules.specs.Ranges.{fitsSetUp, stateInRange, tested}
 use Rattle.rules.specs.TestLaws.{TestedCase, notSetUp, outOfRange, passed, tested-case}
-use Rattle.rules.specs.PushLaws.{PushCase, push-case}
+use Rattle.rules.specs.PushLaws.{PushCase, push-case, coalesced-is}
 use Rattle.rules.specs.Steps.{bind}
-use Rattle.rules.specs.Push.{finished, partTaken, space, ifFull, coalesced, overLimit, queuedWhole, stepped, pushed}
+use Rattle.rules.specs.Push.{finished, partTaken, ifFull, cutUp, overLimit, queuedWhole, stepped, pushed}
+use Rattle.rules.specs.Turns.{space, coalesced}
 use Rattle.rules.specs.Held.{Among, among-more, Holds, held, refused, holds-more, holds-bind, holds-cond, holds-among}
 use Rattle.rules.specs.Stays.{SameSetUp, same-refl, same-trans}
 use Rattle.push_safety.specs.Run.{Run}
@@ -141,8 +142,9 @@ stepped-after w b g x some =
     all : batchPart w b 0 (b .rows - 0) ≡ batchRows w b
     all = let e : b .rows - 0 ≡ b .rows = omega arith in rw e (part-all w b)
 
-    cut : Holds (RowsBehind w (batchRows w b)) (Among steps) (coalesced (b .rows) w w b 0)
-    cut = rw all at (coalesced-after w b (b .rows) w 0 g x (same-refl (w .state)) (omega arith) (omega arith))
+    cut : Holds (RowsBehind w (batchRows w b)) (Among steps) (cutUp w b)
+    cut =
+        rw (coalesced-is w b) (rw all at (coalesced-after w b (b .rows) w 0 g x (same-refl (w .state)) (omega arith) (omega arith)))
 
     -- behind the rows that were buffered
     behind : (v : World) → QueuesBuffered w v → Holds (RowsBehind w (batchRows w b)) (Among steps) (queuedWhole v b)

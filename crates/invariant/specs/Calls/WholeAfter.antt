@@ -17,7 +17,7 @@ use Rattle.state.specs.Layout.{isViews, listLength}
 use Rattle.state.specs.Rows.{slotRows, slotCell, bufferedRows}
 use Rattle.rules.specs.Batch.{Batch, recordOf, batchCell, batchRows}
 use Rattle.rules.specs.Steps.{each, queueing}
-use Rattle.rules.specs.Views.{filling, bitsCopied, valuesCopied, listAttached}
+use Rattle.rules.specs.Views.{span, filling, bitsCopied, valuesCopied, listAttached}
 use Rattle.rules.specs.Push.{columnWhole, columnsWhole, queuedWhole}
 use Rattle.rules.specs.Held.{Among, one-of, Holds, held, refused, holds-cond}
 use Rattle.rules.specs.Stays.{Beside}
@@ -47,7 +47,7 @@ record WholeAdds (w : World) (ext : ℕ → ℕ) (b : Batch) (c : ℕ) (v : Worl
 
 module _ {w : World} {ext : ℕ → ℕ} (b : Batch) (c : ℕ) (a : Holding w ext) (x : ReadableBatch w b) (q : c < w .state .columns) (none : ext c ≡ 0) (empty : reach w (w .state .place) c ≡ 0) (l : recordOf b c .count ≤ w .state .lists) where
   abbrev bits : World
-  bits = bitsCopied w b c (filling w) 0 0 (b .rows)
+  bits = bitsCopied w b (filling w) (span c 0 0 (b .rows))
 
   bits-on : Moves w ext bits ext
   bits-on = bits-moves b c 0 0 (b .rows) a q (omega arith) (omega (arith, x .reads .rows-fit))
@@ -56,7 +56,7 @@ module _ {w : World} {ext : ℕ → ℕ} (b : Batch) (c : ℕ) (a : Holding w ex
   unfolding bitsCopied reach listLength
   bits-reach d = refl
 
-  column-is : columnWhole w b c ≡ listAttached (valuesCopied bits b c (filling bits) 0 0 (b .rows)) b c
+  column-is : columnWhole w b c ≡ listAttached (valuesCopied bits b (filling bits) (span c 0 0 (b .rows))) b c
   unfolding columnWhole bitsCopied
   column-is = refl
 
@@ -66,22 +66,22 @@ module _ {w : World} {ext : ℕ → ℕ} (b : Batch) (c : ℕ) (a : Holding w ex
       adds-whole : {u : World} → Extends bits ext b c 0 (b .rows) u → Adds w ext b c 0 (b .rows) u
       adds-whole {u} e = adds-after a x q (omega (arith, none, x .reads .rows-fit)) (omega arith) (from-row (sym none) e)
         where
-          from-row : {at at′ : ℕ} → at ≡ at′ → Extends (bitsCopied w b c (filling w) at 0 (b .rows)) ext b c 0 (b .rows) u → Extends (bitsCopied w b c (filling w) at′ 0 (b .rows)) ext b c 0 (b .rows) u
+          from-row : {at at′ : ℕ} → at ≡ at′ → Extends (bitsCopied w b (filling w) (span c at 0 (b .rows))) ext b c 0 (b .rows) u → Extends (bitsCopied w b (filling w) (span c at′ 0 (b .rows))) ext b c 0 (b .rows) u
           from-row t y = rw t at y
 
       at : bits .state .place ≡ w .state .place
       at = bits-on .beside .place
 
-      z : WholeColumn bits ext b c (listAttached (valuesCopied bits b c (filling bits) 0 0 (b .rows)) b c)
+      z : WholeColumn bits ext b c (listAttached (valuesCopied bits b (filling bits) (span c 0 0 (b .rows))) b c)
       z =
           laid-whole b c (bits-on .holding) (sourced-on x bits-on (a .run)) (omega (arith, bits-on .beside .set-up .columns)) none
           (ap (λ (k : ℕ). reach bits k c) at ∙ bits-reach c ∙ empty)
           (omega (arith, bits-on .beside .set-up .lists))
           (bits-laid b c 0 0 (b .rows) a q (omega arith) (omega (arith, x .reads .rows-fit)))
 
-      others : (d : ℕ) → d < w .state .columns → d ≢ c → reach (listAttached (valuesCopied bits b c (filling bits) 0 0 (b .rows)) b c) (w .state .place) d ≡ reach w (w .state .place) d
+      others : (d : ℕ) → d < w .state .columns → d ≢ c → reach (listAttached (valuesCopied bits b (filling bits) (span c 0 0 (b .rows))) b c) (w .state .place) d ≡ reach w (w .state .place) d
       others d r n =
-          ap (λ (k : ℕ). reach (listAttached (valuesCopied bits b c (filling bits) 0 0 (b .rows)) b c) k d) (sym at)
+          ap (λ (k : ℕ). reach (listAttached (valuesCopied bits b (filling bits) (span c 0 0 (b .rows))) b c) k d) (sym at)
           ∙ z .others d (omega (arith, bits-on .beside .set-up .columns)) n
           ∙ ap (λ (k : ℕ). reach bits k d) at
           ∙ bits-reach d

@@ -34,7 +34,7 @@ use Rattle.rules.specs.Batch.{Batch, recordOf, listedNumber, bytesListed, liste
 use Rattle.rules.specs.Copies.{longTo, bytesCarried, startsFit}
 use Rattle.rules.specs.CopyLaws.{length-bytesCarried}
 use Rattle.rules.specs.Steps.{ok, inSlots}
-use Rattle.rules.specs.Views.{hasBlock, blockNumber, isOpen, openNumber, openFilled, openRest, sourcePlace, viewsFrom, longBefore, viewsCompacted}
+use Rattle.rules.specs.Views.{span, hasBlock, blockNumber, isOpen, openNumber, openFilled, openRest, sourcePlace, viewsFrom, longBefore, viewsCompacted}
 use Rattle.rules.specs.Held.{Among, Holds, held}
 use Rattle.rules.specs.Stays.{beside-state}
 use Rattle.push_safety.specs.TestedLaws.{bounds-say}
@@ -148,7 +148,7 @@ module _ {w : World} {ext : ℕ → ℕ} (b : Batch) (c from n : ℕ) (a : Holdi
   abbrev v : World
   v = inMemory u pool′ books′
 
-  compacted-is : viewsCompacted w b c (ext c) from n ≡ ok v
+  compacted-is : viewsCompacted w b (span c (ext c) from n) ≡ ok v
   unfolding viewsCompacted longBefore
   compacted-is = rw starts
 
@@ -356,7 +356,7 @@ module _ {w : World} {ext : ℕ → ℕ} (b : Batch) (c from n : ℕ) (a : Holdi
 
 -- ---- the step
 
-pub views-compacted : {w : World} {ext : ℕ → ℕ} (b : Batch) (c from n : ℕ) → Holding w ext → ReadableBatch w b → c < w .state .columns → isViews (w .state) c ≡ true → isOpen w c ≡ true → ext c + n ≤ w .state .rows .0 → from + n ≤ b .rows → longBefore w b c from n ≤ openRest w c → Laid w b c (ext c) from n → Holds (Extends w ext b c from n) (Among []) (viewsCompacted w b c (ext c) from n)
+pub views-compacted : {w : World} {ext : ℕ → ℕ} (b : Batch) (c from n : ℕ) → Holding w ext → ReadableBatch w b → c < w .state .columns → isViews (w .state) c ≡ true → isOpen w c ≡ true → ext c + n ≤ w .state .rows .0 → from + n ≤ b .rows → longBefore w b c from n ≤ openRest w c → Laid w b c (ext c) from n → Holds (Extends w ext b c from n) (Among []) (viewsCompacted w b (span c (ext c) from n))
 views-compacted b c from n a x q y o h m r t =
     rw (compacted-is b c from n a x q y o h m r)
     (held (compacted-extends b c from n a x q y o h m r t))

@@ -21,7 +21,7 @@ use Rattle.state.specs.Where.{Where, cells, bitmap, Inside, cells-inside, bitma
 use Rattle.state.specs.Rows.{listedAt}
 use Rattle.rules.specs.Batch.{Batch, recordOf, hasBitmap, bitOf, rowBit}
 use Rattle.rules.specs.Steps.{inSlots}
-use Rattle.rules.specs.Views.{filling, bitsLaid, bitsCopied}
+use Rattle.rules.specs.Views.{span, filling, bitsLaid, bitsCopied}
 use Rattle.invariant.specs.Holding.{rowsAt, Holding}
 use Rattle.invariant.specs.ByteLaws.{bytes-read, bytes-lay}
 use Rattle.invariant.specs.Steps.Moves.{Moves, BitsStill, Laid}
@@ -157,14 +157,14 @@ module _ {w : World} {ext : ℕ → ℕ} (b : Batch) (c at from n : ℕ) (a : Ho
         cell = cell-agrees (w .state) put-bits framed bits-inside slot d i p r m (other-part (λ z. omega arith));
       })
 
-  bits-are : bitsCopied w b c (filling w) at from n ≡ inSlots w laid
+  bits-are : bitsCopied w b (filling w) (span c at from n) ≡ inSlots w laid
   unfolding bitsCopied bitsLaid rowBit
   bits-are = refl
 
-  pub bits-moves : Moves w ext (bitsCopied w b c (filling w) at from n) ext
+  pub bits-moves : Moves w ext (bitsCopied w b (filling w) (span c at from n)) ext
   bits-moves = rw bits-are bits-moves-so
 
-  pub bits-laid : Laid (bitsCopied w b c (filling w) at from n) b c at from n
+  pub bits-laid : Laid (bitsCopied w b (filling w) (span c at from n)) b c at from n
   bits-laid =
       rw bits-are
       (record {
@@ -174,14 +174,14 @@ module _ {w : World} {ext : ℕ → ℕ} (b : Batch) (c at from n : ℕ) (a : Ho
       })
 
   -- every other bit of the bitmaps is as it was, and where there is no row to copy all are
-  pub bits-others : (slot d i : ℕ) → slot ≤ w .state .queue → d < w .state .columns → i < 8 * size → (slot ≡ w .state .place → d ≢ c) → bitsFrom (bitsCopied w b c (filling w) at from n .slots) (bitmapPlace (w .state) slot d) 0 i ≡ bitsFrom (w .slots) (bitmapPlace (w .state) slot d) 0 i
+  pub bits-others : (slot d i : ℕ) → slot ≤ w .state .queue → d < w .state .columns → i < 8 * size → (slot ≡ w .state .place → d ≢ c) → bitsFrom (bitsCopied w b (filling w) (span c at from n) .slots) (bitmapPlace (w .state) slot d) 0 i ≡ bitsFrom (w .slots) (bitmapPlace (w .state) slot d) 0 i
   bits-others slot d i p r l o = rw bits-are (bit-agrees (w .state) put-bits framed bits-inside slot d i p r l (other (ℕ-discrete slot (w .state .place))))
     where
       other : Dec (slot ≡ w .state .place) → Other put-bits (bitmap slot d)
       other (yes z) = other-column (λ y. o z (sym y))
       other (no z) = other-slot (λ y. z (sym y))
 
-  pub bits-none : n ≡ 0 → (i : ℕ) → i < 8 * size → bitsFrom (bitsCopied w b c (filling w) at from n .slots) place 0 i ≡ bitsFrom (w .slots) place 0 i
+  pub bits-none : n ≡ 0 → (i : ℕ) → i < 8 * size → bitsFrom (bitsCopied w b (filling w) (span c at from n) .slots) place 0 i ≡ bitsFrom (w .slots) place 0 i
   bits-none z i l = rw bits-are (bit-laid i l ∙ by-place (decLt i at) ∙ sym (bit-before i l))
     where
       by-place : Dec (i < at) → bitAt after i ≡ bitAt before i
@@ -189,5 +189,5 @@ module _ {w : World} {ext : ℕ → ℕ} (b : Batch) (c at from n : ℕ) (a : Ho
       by-place (no k) = bit-past before at run n i (omega arith) (λ m. absurd (omega arith))
 
   -- the spare bits behind the rows are zero
-  pub bits-spare : 0 < n → (i : ℕ) → i < 8 * size → at + n ≤ i → i / 8 ≡ (at + n - 1) / 8 → bitsFrom (bitsCopied w b c (filling w) at from n .slots) place 0 i ≡ 0
+  pub bits-spare : 0 < n → (i : ℕ) → i < 8 * size → at + n ≤ i → i / 8 ≡ (at + n - 1) / 8 → bitsFrom (bitsCopied w b (filling w) (span c at from n) .slots) place 0 i ≡ 0
   bits-spare z i l k e = rw bits-are (bit-laid i l ∙ bit-cleared before at run (λ i. rowBit-small b c (from + i)) n i fits z k e)

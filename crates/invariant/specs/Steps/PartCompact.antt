@@ -12,7 +12,7 @@ use Rattle.state.specs.Layout.{isViews}
 use Rattle.state.specs.Rows.{slotCell}
 use Rattle.rules.specs.Batch.{Batch, ideal, batchCell}
 use Rattle.rules.specs.Steps.{bind}
-use Rattle.rules.specs.Views.{filling, hasBlock, isOpen, openRest, closed, blockOpened, longBefore, viewsCompacted, walked, partCompacted}
+use Rattle.rules.specs.Views.{span, filling, hasBlock, isOpen, openRest, closed, blockOpened, longBefore, viewsCompacted, walked, partCompacted}
 use Rattle.rules.specs.Held.{Among, among-more, Holds, holds-more, holds-bind, holds-cond}
 use Rattle.rules.specs.Stays.{Beside}
 use Rattle.rules.specs.SameLaws.{same-views, same-long-before}
@@ -103,7 +103,7 @@ rooms = 10 ∷ 11 ∷ 12 ∷ []
 
 module _ {w : World} {ext : ℕ → ℕ} (b : Batch) (c from n : ℕ) (a : Holding w ext) (x : ReadableBatch w b) (q : c < w .state .columns) (y : isViews (w .state) c ≡ true) (h : ext c + n ≤ w .state .rows .0) (m : from + n ≤ b .rows) (t : Laid w b c (ext c) from n) where
   -- a new block, then the rows: from any world further on
-  anew : {v : World} {ext′ : ℕ → ℕ} (min i k : ℕ) → Moves w ext v ext′ → BitsStill w v → isOpen v c ≡ false → ext′ c + k ≤ w .state .rows .0 → i + k ≤ b .rows → longBefore w b c i k ≤ min → Laid v b c (ext′ c) i k → Holds (Extends v ext′ b c i k) (Among rooms) (bind (blockOpened v c min) (λ u. viewsCompacted u b c (ext′ c) i k))
+  anew : {v : World} {ext′ : ℕ → ℕ} (min i k : ℕ) → Moves w ext v ext′ → BitsStill w v → isOpen v c ≡ false → ext′ c + k ≤ w .state .rows .0 → i + k ≤ b .rows → longBefore w b c i k ≤ min → Laid v b c (ext′ c) i k → Holds (Extends v ext′ b c i k) (Among rooms) (bind (blockOpened v c min) (λ u. viewsCompacted u b (span c (ext′ c) i k)))
   anew {v} {ext′} min i k g s o r e f l =
       holds-bind _ (opened-moves c min (g .holding) q′ y′ o) (λ u z.
       holds-more (views-compacted b c i k (z .moves .holding) (sourced-on x′ (z .moves) (g .holding .run)) (omega (arith, q′, z .moves .beside .set-up .columns)) (same-views (z .moves .beside .set-up) c ∙ y′) (z .is-open) (omega (arith, r, rows-are, ap (λ r. r .0) (z .moves .beside .set-up .rows))) e
@@ -138,7 +138,7 @@ module _ {w : World} {ext : ℕ → ℕ} (b : Batch) (c from n : ℕ) (a : Holdi
       omega (arith, part-ideal w b c from n m)
 
   -- two blocks: the walk into the open one, then the rest into a new one
-  second : (v : World) → Extends w ext b c from k v → Holds (Extends w ext b c from n) (Among rooms) (bind (blockOpened (closed v c) c (ideal w b c - longBefore w b c from k)) (λ u. viewsCompacted u b c (ext c + k) (from + k) (n - k)))
+  second : (v : World) → Extends w ext b c from k v → Holds (Extends w ext b c from n) (Among rooms) (bind (blockOpened (closed v c) c (ideal w b c - longBefore w b c from k)) (λ u. viewsCompacted u b (span c (ext c + k) (from + k) (n - k))))
   second v d =
       holds-more
       (rw (more-here ext c k) at (anew (ideal w b c - longBefore w b c from k) (from + k) (n - k) g s (ap hasBlock (closed-shut v c y′)) (omega (arith, here, k-most)) (omega (arith, k-most)) behind l))
@@ -175,7 +175,7 @@ module _ {w : World} {ext : ℕ → ℕ} (b : Batch) (c from n : ℕ) (a : Holdi
       l : Laid (closed v c) b c (more ext c k c) (from + k) (n - k)
       l = rw here (laid-part k (n - k) (omega (arith, k-most)) (laid-on b c (ext c) from n (a .run) (g .beside) s q h t))
 
-  pub part-compacted-extends : Holds (Extends w ext b c from n) (Among (10 ∷ 11 ∷ 12 ∷ [])) (partCompacted w b c (ext c) from n)
+  pub part-compacted-extends : Holds (Extends w ext b c from n) (Among (10 ∷ 11 ∷ 12 ∷ [])) (partCompacted w b (span c (ext c) from n))
   unfolding partCompacted
   part-compacted-extends =
       holds-cond (isOpen w c)

@@ -16,7 +16,7 @@ use Rattle.state.specs.Rows.{slotCell}
 use Rattle.rules.specs.declared.Way.{Way}
 use Rattle.rules.specs.Batch.{Batch, rowView, ideal, actual, wayOf, way, batchCell}
 use Rattle.rules.specs.Steps.{Res, forEach}
-use Rattle.rules.specs.Views.{filling, bitsCopied, byWay, columnCopied, partCopied}
+use Rattle.rules.specs.Views.{span, filling, bitsCopied, byWay, columnCopied, partCopied}
 use Rattle.rules.specs.Held.{Among, Holds, held, holds-more, holds-bind, holds-among}
 use Rattle.rules.specs.Stays.{SameSetUp, Beside, same-trans}
 use Rattle.rules.specs.SameLaws.{same-views, same-row-view}
@@ -61,7 +61,7 @@ copied-inline w b c i e h =
 
 module _ {w : World} {ext : ℕ → ℕ} (w₀ : World) (b : Batch) (c from n : ℕ) (a : Holding w ext) (x : ReadableBatch w b) (same : SameSetUp (w₀ .state) (w .state)) (q : c < w .state .columns) (h : ext c + n ≤ w .state .rows .0) (m : from + n ≤ b .rows) where
   abbrev v : World
-  v = bitsCopied w b c (filling w) (ext c) from n
+  v = bitsCopied w b (filling w) (span c (ext c) from n)
 
   v-moves : Moves w ext v ext
   v-moves = bits-moves b c (ext c) from n a q (omega arith) h
@@ -82,7 +82,7 @@ module _ {w : World} {ext : ℕ → ℕ} (w₀ : World) (b : Batch) (c from n : 
   behind : {u : World} → Extends v ext b c from n u → Adds w ext b c from n u
   behind e = adds-after a x q h m e
 
-  by-way : (z : Way) → (isViews (w .state) c ≡ true → z ≡ way w₀ b c) → (isViews (w .state) c ≡ false → z ≡ Way.Copied) → Holds (Adds w ext b c from n) (Among rooms) (byWay v b c (ext c) from n z)
+  by-way : (z : Way) → (isViews (w .state) c ≡ true → z ≡ way w₀ b c) → (isViews (w .state) c ≡ false → z ≡ Way.Copied) → Holds (Adds w ext b c from n) (Among rooms) (byWay v b (span c (ext c) from n) z)
   by-way Way.Copied p r =
       held
       (behind (values-extends b c from n (v-moves .holding) v-sourced q′ h′ m v-laid (λ y j l.
@@ -90,14 +90,14 @@ module _ {w : World} {ext : ℕ → ℕ} (w₀ : World) (b : Batch) (c from n : 
       (copied-inline w₀ b c (from + j) (sym (p (sym (same-views (v-moves .beside .set-up) c) ∙ y))) (omega arith)))))
   by-way Way.Attached p r = by-views (isViews (w .state) c) refl
     where
-      by-views : (t : Bool) → isViews (w .state) c ≡ t → Holds (Adds w ext b c from n) (Among rooms) (byWay v b c (ext c) from n Way.Attached)
+      by-views : (t : Bool) → isViews (w .state) c ≡ t → Holds (Adds w ext b c from n) (Among rooms) (byWay v b (span c (ext c) from n) Way.Attached)
       by-views true y =
           holds-among rooms tt
           (holds-more (part-attached-extends b c from n (v-moves .holding) v-sourced q′ (same-views (v-moves .beside .set-up) c ∙ y) h′ m v-laid) (λ u e. behind e) (λ j l. l))
       by-views false y = let e = r y in let t : _≡_ {A = ℕ} 0 1 = cc in absurd (omega arith)
   by-way Way.Compacted p r = by-views (isViews (w .state) c) refl
     where
-      by-views : (t : Bool) → isViews (w .state) c ≡ t → Holds (Adds w ext b c from n) (Among rooms) (byWay v b c (ext c) from n Way.Compacted)
+      by-views : (t : Bool) → isViews (w .state) c ≡ t → Holds (Adds w ext b c from n) (Among rooms) (byWay v b (span c (ext c) from n) Way.Compacted)
       by-views true y =
           holds-more (part-compacted-extends b c from n (v-moves .holding) v-sourced q′ (same-views (v-moves .beside .set-up) c ∙ y) h′ m v-laid) (λ u e. behind e) (λ j l. l)
       by-views false y = let e = r y in let t : _≡_ {A = ℕ} 0 1 = cc in absurd (omega arith)
@@ -107,7 +107,7 @@ module _ {w : World} {ext : ℕ → ℕ} (w₀ : World) (b : Batch) (c from n : 
   column-adds e =
       ap-holds e (by-way (cond (isViews (w .state) c) (way w₀ b c) Way.Copied) (λ y. rw y) (λ y. rw y))
     where
-      ap-holds : {at at′ : ℕ} → at ≡ at′ → Holds (Adds w ext b c from n) (Among rooms) (byWay (bitsCopied w b c (filling w) at from n) b c at from n (cond (isViews (w .state) c) (way w₀ b c) Way.Copied)) → Holds (Adds w ext b c from n) (Among rooms) (byWay (bitsCopied w b c (filling w) at′ from n) b c at′ from n (cond (isViews (w .state) c) (way w₀ b c) Way.Copied))
+      ap-holds : {at at′ : ℕ} → at ≡ at′ → Holds (Adds w ext b c from n) (Among rooms) (byWay (bitsCopied w b (filling w) (span c at from n)) b (span c at from n) (cond (isViews (w .state) c) (way w₀ b c) Way.Copied)) → Holds (Adds w ext b c from n) (Among rooms) (byWay (bitsCopied w b (filling w) (span c at′ from n)) b (span c at′ from n) (cond (isViews (w .state) c) (way w₀ b c) Way.Copied))
       ap-holds e h = rw e at h
 
 -- ---- a part of every column

@@ -22,7 +22,7 @@ use Rattle.rules.specs.Batch.{Batch, recordOf, listedNumber, bytesListed, liste
 use Rattle.rules.specs.Steps.{inSlots}
 use Rattle.rules.specs.Copies.{viewsPut}
 use Rattle.rules.specs.CopyLaws.{views-framed, views-read}
-use Rattle.rules.specs.Views.{filling, closed, listAttached, viewsRaised, partAttached}
+use Rattle.rules.specs.Views.{span, filling, closed, listAttached, viewsRaised, partAttached}
 use Rattle.rules.specs.Held.{Among, one-of, Holds, held, refused, holds-cond}
 use Rattle.rules.specs.Stays.{Beside}
 use Rattle.rules.specs.SameLaws.{same-views}
@@ -112,7 +112,7 @@ module _ {w : World} {ext : ℕ → ℕ} (b : Batch) (c k from n : ℕ) (a : Hol
   abbrev v : World
   v = inSlots w (put b c from n a q y h raised fits)
 
-  raised-is : viewsRaised w b c k (ext c) from n ≡ v
+  raised-is : viewsRaised w b k (span c (ext c) from n) ≡ v
   unfolding viewsRaised
   raised-is = refl
 
@@ -145,7 +145,7 @@ module _ {w : World} {ext : ℕ → ℕ} (b : Batch) (c k from n : ℕ) (a : Hol
         plain = λ z. absurd (true≢false (sym y ∙ z));
       }
 
-  pub raised-extends : Laid w b c (ext c) from n → Extends w ext b c from n (viewsRaised w b c k (ext c) from n)
+  pub raised-extends : Laid w b c (ext c) from n → Extends w ext b c from n (viewsRaised w b k (span c (ext c) from n))
   raised-extends l =
       rw raised-is
       (stored-extends b c from n v-moves q h (laid-on b c (ext c) from n (a .run) (v-moves .beside) (put-still b c from n a q y h raised fits) q h l) stored (put-still b c from n a q y h raised fits))
@@ -159,7 +159,7 @@ module _ {w : World} {ext : ℕ → ℕ} (b : Batch) (c from n : ℕ) (a : Holdi
   shut-moves : Moves w ext u ext
   shut-moves = closed-moves c a q y
 
-  attached-extends : listLength u (filling w) c + recordOf b c .count ≤ w .state .lists → Extends w ext b c from n (viewsRaised (listAttached u b c) b c (listLength u (filling w) c) (ext c) from n)
+  attached-extends : listLength u (filling w) c + recordOf b c .count ≤ w .state .lists → Extends w ext b c from n (viewsRaised (listAttached u b c) b (listLength u (filling w) c) (span c (ext c) from n))
   attached-extends t =
       extends-after a x q m (moves-trans shut-moves mid) (still-trans e (closed-still c a q y) mid-still)
       (rw len (raised-extends b c (listLength u (u .state .place) c) from n (mid .holding) (sourced-on (sourced-on x shut-moves (a .run)) mid (shut-moves .holding .run)) q″ y″ h″ m reach-is number-is laid″))
@@ -210,7 +210,7 @@ module _ {w : World} {ext : ℕ → ℕ} (b : Batch) (c from n : ℕ) (a : Holdi
           laid-on b c (ext c) from n (shut-moves .holding .run) (mid .beside) mid-still q′ (omega (arith, ap (λ r. r .0) (e .set-up .rows)))
           (laid-on b c (ext c) from n (a .run) e (closed-still c a q y) q h l)
 
-  pub part-attached-extends : Holds (Extends w ext b c from n) (Among (10 ∷ [])) (partAttached w b c (ext c) from n)
+  pub part-attached-extends : Holds (Extends w ext b c from n) (Among (10 ∷ [])) (partAttached w b (span c (ext c) from n))
   unfolding partAttached
   part-attached-extends =
       holds-cond (leb (listLength u (filling w) c + recordOf b c .count) (w .state .lists))

@@ -11,7 +11,7 @@ use Rattle.state.specs.Layout.{bitmapBytes, bitmapPlace, rowsIn}
 use Rattle.state.specs.LayoutLaws.{bits-fit}
 use Rattle.state.specs.Rows.{slotCell}
 use Rattle.rules.specs.Batch.{Batch}
-use Rattle.rules.specs.Views.{filling, bitsCopied}
+use Rattle.rules.specs.Views.{span, filling, bitsCopied}
 use Rattle.rules.specs.Stays.{SameSetUp, Beside}
 use Rattle.rules.specs.SameLaws.{same-bitmap-place}
 use Rattle.invariant.specs.Holding.{rowsAt, IsSpare, Spared, Holding}
@@ -57,9 +57,9 @@ spared-ext {w} {ext} ext′ e s =
 
 -- ---- the bits of a part, then its rows
 
-module _ {w u : World} {ext : ℕ → ℕ} {b : Batch} {c from n : ℕ} (a : Holding w ext) (x : ReadableBatch w b) (q : c < w .state .columns) (h : ext c + n ≤ w .state .rows .0) (m : from + n ≤ b .rows) (e : Extends (bitsCopied w b c (filling w) (ext c) from n) ext b c from n u) where
+module _ {w u : World} {ext : ℕ → ℕ} {b : Batch} {c from n : ℕ} (a : Holding w ext) (x : ReadableBatch w b) (q : c < w .state .columns) (h : ext c + n ≤ w .state .rows .0) (m : from + n ≤ b .rows) (e : Extends (bitsCopied w b (filling w) (span c (ext c) from n)) ext b c from n u) where
   abbrev v : World
-  v = bitsCopied w b c (filling w) (ext c) from n
+  v = bitsCopied w b (filling w) (span c (ext c) from n)
 
   laid : Moves w ext v ext
   laid = bits-moves b c (ext c) from n a q (omega arith) h

@@ -19,7 +19,7 @@ use Rattle.state.specs.Layout.{widthOf, isViews, cellPlace}
 use Rattle.state.specs.LayoutLaws.{views-width, cell-in}
 use Rattle.rules.specs.Batch.{Batch, recordOf, listedBytes, valuePlace, rowView}
 use Rattle.rules.specs.Steps.{inSlots}
-use Rattle.rules.specs.Views.{filling, valuesLaid, valuesCopied}
+use Rattle.rules.specs.Views.{span, filling, valuesLaid, valuesCopied}
 use Rattle.invariant.specs.Holding.{Holding}
 use Rattle.invariant.specs.ByteLaws.{bytes-read, bytes-lay}
 use Rattle.invariant.specs.Steps.Moves.{Moves, BitsStill, ReadableBatch, Laid, Extends}
@@ -80,30 +80,30 @@ module _ {w : World} {ext : ℕ → ℕ} (b : Batch) (c at from n : ℕ) (a : Ho
       let p : Agrees bytes 0 laid to (n * width) = rw laid-is (rw length-bytes at (put-agrees to bytes (w .slots) (omega (arith, length-bytes, to-in)))) in
       agrees-trans (record { byte = λ i j k l e. getD-read source (n * width) (b .body) i (omega arith) ∙ ap (λ (z : ℕ). getD (b .body) z 0) (omega arith) }) p
 
-  values-are : valuesCopied w b c (filling w) at from n ≡ inSlots w laid
+  values-are : valuesCopied w b (filling w) (span c at from n) ≡ inSlots w laid
   unfolding valuesCopied valuesLaid valuePlace
   values-are = refl
 
-  pub values-moves : Moves w ext (valuesCopied w b c (filling w) at from n) ext
+  pub values-moves : Moves w ext (valuesCopied w b (filling w) (span c at from n)) ext
   values-moves = rw values-are (cells-moves laid c at n a q old h framed (λ z. bytes-lay to (bytes-read source (n * width) (x .bytes)) z))
 
-  pub values-still : BitsStill w (valuesCopied w b c (filling w) at from n)
+  pub values-still : BitsStill w (valuesCopied w b (filling w) (span c at from n))
   values-still = rw values-are (cells-still laid c at n a q old h framed)
 
   -- each row has the bytes of its row of the batch
-  pub values-agree : (j : ℕ) → j < n → Agrees (b .body) (valuePlace w b c (from + j)) (valuesCopied w b c (filling w) at from n .slots) (cellPlace (w .state) (filling w) c (at + j)) width
+  pub values-agree : (j : ℕ) → j < n → Agrees (b .body) (valuePlace w b c (from + j)) (valuesCopied w b (filling w) (span c at from n) .slots) (cellPlace (w .state) (filling w) c (at + j)) width
   values-agree j l =
       rw values-are
       (record {
         byte = λ i k p r e. agrees .byte i k (omega (arith, cell-add (w .state) (filling w) c at j)) (omega (arith, cell-add (w .state) (filling w) c at j, row-of j n width l)) (omega (arith, cell-add (w .state) (filling w) c at j, value-add w b c from j));
       })
 
-  pub values-view : isViews (w .state) c ≡ true → (j : ℕ) → j < n → viewOf (valuesCopied w b c (filling w) at from n .slots) (cellPlace (w .state) (filling w) c (at + j)) ≡ rowView w b c (from + j)
+  pub values-view : isViews (w .state) c ≡ true → (j : ℕ) → j < n → viewOf (valuesCopied w b (filling w) (span c at from n) .slots) (cellPlace (w .state) (filling w) c (at + j)) ≡ rowView w b c (from + j)
   unfolding rowView
   values-view y j l =
       agrees-view (cellPlace (w .state) (filling w) c (at + j)) (valuePlace w b c (from + j)) (values-agree j l) (omega arith) (omega (arith, views-width (w .state) c y)) (omega arith)
 
-  pub values-plain : (j : ℕ) → j < n → read (cellPlace (w .state) (filling w) c (at + j)) width (valuesCopied w b c (filling w) at from n .slots) ≡ read (valuePlace w b c (from + j)) width (b .body)
+  pub values-plain : (j : ℕ) → j < n → read (cellPlace (w .state) (filling w) c (at + j)) width (valuesCopied w b (filling w) (span c at from n) .slots) ≡ read (valuePlace w b c (from + j)) width (b .body)
   values-plain j l =
       agrees-read (cellPlace (w .state) (filling w) c (at + j)) (valuePlace w b c (from + j)) width (values-agree j l) (omega arith) (omega arith) (omega arith)
       (omega (arith, values-moves .beside .slots, cell-add (w .state) (filling w) c at j, row-of j n width l, to-in))
@@ -111,7 +111,7 @@ module _ {w : World} {ext : ℕ → ℕ} (b : Batch) (c at from n : ℕ) (a : Ho
 
 -- 01: "Ideal 0: views copied, list not attached": all of them are inline
 module _ {w : World} {ext : ℕ → ℕ} (b : Batch) (c from n : ℕ) (a : Holding w ext) (x : ReadableBatch w b) (q : c < w .state .columns) (h : ext c + n ≤ w .state .rows .0) (m : from + n ≤ b .rows) where
-  pub values-extends : Laid w b c (ext c) from n → (isViews (w .state) c ≡ true → (j : ℕ) → j < n → rowView w b c (from + j) .length ≤ 12) → Extends w ext b c from n (valuesCopied w b c (filling w) (ext c) from n)
+  pub values-extends : Laid w b c (ext c) from n → (isViews (w .state) c ≡ true → (j : ℕ) → j < n → rowView w b c (from + j) .length ≤ 12) → Extends w ext b c from n (valuesCopied w b (filling w) (span c (ext c) from n))
   values-extends l inline =
       stored-extends b c from n moves q h (laid-on b c (ext c) from n (a .run) (moves .beside) still q h l)
       (λ j k.
@@ -123,8 +123,8 @@ module _ {w : World} {ext : ℕ → ℕ} (b : Batch) (c from n : ℕ) (a : Holdi
       })
       still
     where
-      still : BitsStill w (valuesCopied w b c (filling w) (ext c) from n)
+      still : BitsStill w (valuesCopied w b (filling w) (span c (ext c) from n))
       still = values-still b c (ext c) from n a x q (omega arith) h m
 
-      moves : Moves w ext (valuesCopied w b c (filling w) (ext c) from n) ext
+      moves : Moves w ext (valuesCopied w b (filling w) (span c (ext c) from n)) ext
       moves = values-moves b c (ext c) from n a x q (omega arith) h m

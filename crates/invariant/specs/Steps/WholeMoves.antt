@@ -14,7 +14,7 @@ use Rattle.state.specs.Layout.{widthOf, isViews, cellPlace, listLength}
 use Rattle.state.specs.LayoutLaws.{views-width}
 use Rattle.state.specs.Rows.{bufferAt}
 use Rattle.rules.specs.Batch.{Batch, recordOf, listedNumber, bytesListed, listedBytes, valuePlace, rowView}
-use Rattle.rules.specs.Views.{filling, valuesCopied, listAttached}
+use Rattle.rules.specs.Views.{span, filling, valuesCopied, listAttached}
 use Rattle.rules.specs.SameLaws.{same-width, same-views, same-value-place, same-row-view}
 use Rattle.push_safety.specs.Run.{ColumnReads}
 use Rattle.invariant.specs.Holding.{reach, numberAt, Holding, Begins}
@@ -42,7 +42,7 @@ listed-filled w b c i = refl
 
 module _ {w : World} {ext : ℕ → ℕ} (b : Batch) (c : ℕ) (a : Holding w ext) (x : ReadableBatch w b) (q : c < w .state .columns) (none : ext c ≡ 0) (empty : reach w (w .state .place) c ≡ 0) (l : recordOf b c .count ≤ w .state .lists) (t : Laid w b c 0 0 (b .rows)) where
   abbrev v : World
-  v = valuesCopied w b c (filling w) 0 0 (b .rows)
+  v = valuesCopied w b (filling w) (span c 0 0 (b .rows))
 
   rows-fit : b .rows ≤ w .state .rows .0
   rows-fit = x .reads .rows-fit
