@@ -36,6 +36,12 @@ fn made(rng: &mut Rng, rows: usize) -> Made {
     Made { kind, values, first_bit: if bitmap.is_some() { first_bit as u32 } else { 0 }, bitmap, list: vec![] }
 }
 
+/// The column has the bytes and bits of so many rows.
+fn is_whole(made: &Made, rows: usize) -> bool {
+    let bits = made.bitmap.as_ref().is_none_or(|bitmap| 8 * bitmap.len() >= made.first_bit as usize + rows);
+    bits && made.values.len() >= rows * made.kind.width()
+}
+
 /// The bytes that the rows of a column are to come out with.
 fn rows_of(made: &Made, rows: usize) -> Vec<Option<Vec<u8>>> {
     let valid = |i: usize| {
@@ -109,6 +115,7 @@ fn a_column_that_is_wrong_is_refused_or_its_rows_come_out() {
                 continue;
             };
             taken += 1;
+            assert!(is_whole(&spoilt[wrong], rows), "column {wrong} of {kinds:?} is short, and was pushed");
             for (c, column) in out.columns().iter().enumerate() {
                 let (around, between) = (rows_of(&all[c], rows), rows_of(&spoilt[c], rows));
                 let wanted = around.iter().chain(&between).chain(&around).map(Option::as_deref);
