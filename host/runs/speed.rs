@@ -3,9 +3,10 @@
 //! A run pushes one batch many times and drops batches as they complete. Memory is not cleared between pushes: the port's pool, slots
 //! and books are warm, and so is what the Rust's allocator gives again. `memcpy` copies the bytes that a push moves, to warm memory.
 //! `speed [ROUNDS [NAME]]`: the rows whose name has NAME in it; times are of this machine, ratios travel better. The last rows are of the
-//! port alone, with many live buffers.
+//! port alone: batches read back by the crate, and calls with many live buffers.
 
 mod crowd;
+mod reading;
 
 use judge::{Judge, JudgeBuffer, JudgeColumn, Prepared, prepare};
 use puffwidget::layout::SetUpSizes;
@@ -181,6 +182,9 @@ fn main() {
             bench.moved as f64 / port,
             100.0 * memcpy / port
         );
+    }
+    if only.as_ref().is_none_or(|word| "read back".contains(&word[..])) {
+        reading::rows(rounds);
     }
     if only.is_none_or(|word| "live buffers".contains(&word[..])) {
         crowd::lying_in_order(rounds);

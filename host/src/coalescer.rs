@@ -112,10 +112,7 @@ impl BatchCoalescer {
 
     /// Takes the front batch, if there is one.
     pub fn next_completed_batch(&mut self) -> Result<Option<CompletedBatch>, Refusal> {
-        if !self.has_completed_batch() {
-            return Ok(None);
-        }
-        let batch = front::read(&self.memory, &self.kinds)?;
+        let Some(batch) = front::read(&self.memory, &self.kinds)? else { return Ok(None) };
         self.memory.next_completed_batch().map_err(Refusal::of)?;
         Ok(Some(batch))
     }

@@ -54,11 +54,14 @@ pub struct CompletedColumn {
 }
 
 impl CompletedColumn {
-    /// A column of these bytes; `None` where a view that is not null leads outside them.
+    /// A column of these bytes; `None` where a view leads outside them.
     pub(crate) fn of(kind: Kind, rows: usize, values: Vec<u8>, bitmap: Vec<u8>, text: Vec<u8>, parts: Vec<Range<usize>>) -> Option<Self> {
-        let column = CompletedColumn { kind, rows, values, bitmap, text, parts };
-        let whole = !kind.is_view() || (0..rows).all(|row| column.is_null(row) || column.shown(row).is_some());
-        whole.then_some(column)
+        let inside = |view: &[u8]| match word(view, 0) as usize {
+            0..=12 => true,
+            length => parts.get(word(view, 8) as usize).is_some_and(|part| word(view, 12) as usize + length <= part.len()),
+        };
+        let whole = !kind.is_view() || values.chunks_exact(kind.width()).all(inside);
+        whole.then_some(CompletedColumn { kind, rows, values, bitmap, text, parts })
     }
 
     /// Its kind.

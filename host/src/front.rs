@@ -17,10 +17,10 @@ struct Place {
 
 /// The rows of the front batch and its columns' places; 13 where nothing is queued. The one function that knows where they stand.
 fn places(memory: &Memory) -> Result<(usize, Vec<Place>), Refusal> {
-    if !memory.has_completed_batch() {
+    let reader = Reader::new(memory);
+    if reader.queued() == 0 {
         return Err(Refusal::NotThere);
     }
-    let reader = Reader::new(memory);
     let slot = reader.queued_slot(0);
     let place = |(c, kind): (usize, &Kind)| {
         let [values, bitmap, list] = reader.column_places(slot, c);
@@ -29,11 +29,14 @@ fn places(memory: &Memory) -> Result<(usize, Vec<Place>), Refusal> {
     Ok((reader.rows_in(slot), reader.kinds().iter().enumerate().map(place).collect()))
 }
 
-/// The front batch, copied.
-pub(crate) fn read(memory: &Memory, kinds: &[Kind]) -> Result<CompletedBatch, Refusal> {
-    let (rows, places) = places(memory)?;
+/// The front batch, copied, if there is one.
+pub(crate) fn read(memory: &Memory, kinds: &[Kind]) -> Result<Option<CompletedBatch>, Refusal> {
+    let (rows, places) = match places(memory) {
+        Err(Refusal::NotThere) => return Ok(None),
+        found => found?,
+    };
     let columns = places.iter().zip(kinds).map(|(place, kind)| column(memory, *kind, rows, place)).collect::<Result<_, _>>()?;
-    Ok(CompletedBatch::of(rows, columns))
+    Ok(Some(CompletedBatch::of(rows, columns)))
 }
 
 /// One column: its values, its bitmap, and the buffers of its list.
@@ -52,6 +55,9 @@ fn part(slots: &[u8], start: usize, length: usize) -> Result<&[u8], Refusal> {
 
 /// The bytes of the buffers that a list names, each once, and where each place of the list finds its own.
 fn texts(memory: &Memory, list: &[u8]) -> Result<(Vec<u8>, Vec<Range<usize>>), Refusal> {
+    if list.is_empty() {
+        return Ok((Vec::new(), Vec::new()));
+    }
     let (mut text, mut parts, mut read) = (Vec::new(), Vec::new(), HashMap::new());
     for at in (0..list.len()).step_by(4) {
         let number = word(list, at);
