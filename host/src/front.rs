@@ -15,23 +15,44 @@ struct Place {
     width: usize,
 }
 
-/// The rows of the front batch and its columns' places; 13 where nothing is queued. The one function that knows where they stand.
-fn places(memory: &Memory) -> Result<(usize, Vec<Place>), Refusal> {
+/// The front batch told in bytes, by the layout: the refusal in the upper 32 bits (13 where nothing is queued) or the rows in the lower; in
+/// `out`, for column c at 32 x c, the places in the slots of its values, its bitmap and its list (u64), its list length and its width.
+/// The one function that knows where a batch stands.
+fn front_batch(memory: &Memory, out: &mut [u8; 512]) -> u64 {
     let reader = Reader::new(memory);
     if reader.queued() == 0 {
-        return Err(Refusal::NotThere);
+        return u64::from(Refusal::NotThere.number()) << 32;
     }
     let slot = reader.queued_slot(0);
-    let place = |(c, kind): (usize, &Kind)| {
-        let [values, bitmap, list] = reader.column_places(slot, c);
-        Place { values, bitmap, list, listed: reader.listed(slot, c), width: kind.width() }
+    for ((c, kind), told) in reader.kinds().iter().enumerate().zip(out.chunks_exact_mut(32)) {
+        let counts = reader.listed(slot, c) as u64 | (kind.width() as u64) << 32;
+        let [values, bitmap, list] = reader.column_places(slot, c).map(|place| place as u64);
+        for (place, number) in told.chunks_exact_mut(8).zip([values, bitmap, list, counts]) {
+            place.copy_from_slice(&number.to_le_bytes());
+        }
+    }
+    reader.rows_in(slot) as u64
+}
+
+/// The rows of the front batch and its columns' places; 13 where nothing is queued.
+fn places(memory: &Memory, columns: usize) -> Result<(usize, Vec<Place>), Refusal> {
+    let mut out = [0; 512];
+    let answer = front_batch(memory, &mut out);
+    match (answer >> 32) as u32 {
+        0 => {}
+        number => return Err(Refusal::of(number)),
+    }
+    let place = |told: &[u8]| {
+        let at = |i: usize| word(told, 4 * i) as usize;
+        let long = |i: usize| at(i) | at(i + 1) << 32;
+        Place { values: long(0), bitmap: long(2), list: long(4), listed: at(6), width: at(7) }
     };
-    Ok((reader.rows_in(slot), reader.kinds().iter().enumerate().map(place).collect()))
+    Ok((answer as u32 as usize, out.chunks_exact(32).take(columns).map(place).collect()))
 }
 
 /// The front batch, copied, if there is one.
 pub(crate) fn read(memory: &Memory, kinds: &[Kind]) -> Result<Option<CompletedBatch>, Refusal> {
-    let (rows, places) = match places(memory) {
+    let (rows, places) = match places(memory, kinds.len()) {
         Err(Refusal::NotThere) => return Ok(None),
         found => found?,
     };

@@ -136,6 +136,7 @@ fn a_short_column_does_not_read_on_into_the_next() {
     let nulls = Column { validity: Some(Validity { bitmap: &[0xff], first_bit: 0 }), ..column(&[7; 9]) };
     let short = Batch::new(9, &[column(&[1; 9]), nulls, column(&[0; 9])]);
     assert_eq!(short, Err(Error::Column { column: 1, fault: ColumnFault::ShortBitmap { bits: 8, wanted: 9 } }));
+    assert_eq!(Batch::new(0, &[column(&[]), nulls]).map(|batch| batch.rows()), Ok(0)); // no rows want no bytes
     assert_eq!(Batch::new(1, &[column(&[1]); 17]), Err(Error::TooManyColumns { columns: 17 }));
 }
 
