@@ -46,8 +46,8 @@ impl CompletedBatch {
 pub struct CompletedColumn {
     kind: Kind,
     rows: usize,
-    values: Vec<u8>,
-    bitmap: Vec<u8>,
+    /// the values, and the bitmap behind them
+    bytes: Vec<u8>,
     /// the buffers, one behind the other, and the part of each place of the list
     text: Vec<u8>,
     parts: Vec<Range<usize>>,
@@ -55,13 +55,13 @@ pub struct CompletedColumn {
 
 impl CompletedColumn {
     /// A column of these bytes; `None` where a view leads outside them.
-    pub(crate) fn of(kind: Kind, rows: usize, values: Vec<u8>, bitmap: Vec<u8>, text: Vec<u8>, parts: Vec<Range<usize>>) -> Option<Self> {
+    pub(crate) fn of(kind: Kind, rows: usize, values: &[u8], bitmap: &[u8], text: Vec<u8>, parts: Vec<Range<usize>>) -> Option<Self> {
         let inside = |view: &[u8]| match word(view, 0) as usize {
             0..=12 => true,
             length => parts.get(word(view, 8) as usize).is_some_and(|part| word(view, 12) as usize + length <= part.len()),
         };
-        let whole = !kind.is_view() || values.chunks_exact(kind.width()).all(inside);
-        whole.then_some(CompletedColumn { kind, rows, values, bitmap, text, parts })
+        let whole = values.len() == rows * kind.width() && (!kind.is_view() || values.chunks_exact(kind.width()).all(inside));
+        whole.then(|| CompletedColumn { kind, rows, bytes: [values, bitmap].concat(), text, parts })
     }
 
     /// Its kind.
@@ -76,12 +76,12 @@ impl CompletedColumn {
 
     /// The rows' values, one behind the other, little-endian; of a view 16 bytes, in Arrow's layout.
     pub fn values(&self) -> &[u8] {
-        &self.values
+        &self.bytes[..self.rows * self.kind.width()]
     }
 
     /// One bit a row from bit 0 on, least significant first, 1 valid; spare bits are 0.
     pub fn validity(&self) -> &[u8] {
-        &self.bitmap
+        &self.bytes[self.rows * self.kind.width()..]
     }
 
     /// The buffers that long views name by place.
@@ -91,12 +91,12 @@ impl CompletedColumn {
 
     /// How many rows are null.
     pub fn null_count(&self) -> usize {
-        self.rows.saturating_sub(self.bitmap.iter().map(|byte| byte.count_ones() as usize).sum())
+        self.rows.saturating_sub(self.validity().iter().map(|byte| byte.count_ones() as usize).sum())
     }
 
     /// The row is null; false past the last row.
     pub fn is_null(&self, row: usize) -> bool {
-        row < self.rows && self.bitmap.get(row / 8).is_some_and(|byte| byte >> (row % 8) & 1 == 0)
+        row < self.rows && self.validity().get(row / 8).is_some_and(|byte| byte >> (row % 8) & 1 == 0)
     }
 
     /// The bytes of a row, `Some(None)` for null, `None` past the last row: a value's little-endian bytes, or those of a string.
@@ -111,7 +111,7 @@ impl CompletedColumn {
 
     /// What a row that is not null shows.
     fn shown(&self, row: usize) -> Option<&[u8]> {
-        let value = self.values.get(row * self.kind.width()..)?.get(..self.kind.width())?;
+        let value = self.bytes.get(row * self.kind.width()..)?.get(..self.kind.width())?;
         if !self.kind.is_view() {
             return Some(value);
         }
@@ -138,7 +138,7 @@ impl CompletedColumn {
     /// The rows of a plain kind, `None` for null; refused where the column is of another kind.
     pub fn typed<K: Primitive>(&self) -> Result<impl ExactSizeIterator<Item = Option<K::Value>>, Error> {
         self.held_to(self.kind == K::KIND, K::KIND)?;
-        let rows = self.values.chunks_exact(self.kind.width()).enumerate();
+        let rows = self.values().chunks_exact(self.kind.width()).enumerate();
         Ok(rows.map(|(row, value)| if self.is_null(row) { None } else { K::Bytes::try_from(value).ok().map(K::value) }))
     }
 

@@ -2,6 +2,7 @@
 
 use crate::completed::{CompletedBatch, CompletedColumn};
 use crate::layout::{Reader, word};
+use crate::memory::split;
 use crate::{Kind, Memory, Refusal};
 use std::collections::HashMap;
 use std::ops::Range;
@@ -34,36 +35,29 @@ fn front_batch(memory: &Memory, out: &mut [u8; 512]) -> u64 {
     reader.rows_in(slot) as u64
 }
 
-/// The rows of the front batch and its columns' places; 13 where nothing is queued.
-fn places(memory: &Memory, columns: usize) -> Result<(usize, Vec<Place>), Refusal> {
-    let mut out = [0; 512];
-    let answer = front_batch(memory, &mut out);
-    match (answer >> 32) as u32 {
-        0 => {}
-        number => return Err(Refusal::of(number)),
-    }
-    let place = |told: &[u8]| {
-        let at = |i: usize| word(told, 4 * i) as usize;
-        let long = |i: usize| at(i) | at(i + 1) << 32;
-        Place { values: long(0), bitmap: long(2), list: long(4), listed: at(6), width: at(7) }
-    };
-    Ok((answer as u32 as usize, out.chunks_exact(32).take(columns).map(place).collect()))
+/// The place of a column, of the 32 bytes that tell it.
+fn place(told: &[u8]) -> Place {
+    let at = |i: usize| word(told, 4 * i) as usize;
+    let long = |i: usize| at(i) | at(i + 1) << 32;
+    Place { values: long(0), bitmap: long(2), list: long(4), listed: at(6), width: at(7) }
 }
 
 /// The front batch, copied, if there is one.
 pub(crate) fn read(memory: &Memory, kinds: &[Kind]) -> Result<Option<CompletedBatch>, Refusal> {
-    let (rows, places) = match places(memory, kinds.len()) {
+    let mut out = [0; 512];
+    let answer = front_batch(memory, &mut out);
+    let rows = match split(answer).map_err(Refusal::of) {
         Err(Refusal::NotThere) => return Ok(None),
-        found => found?,
+        rows => rows? as usize,
     };
-    let columns = places.iter().zip(kinds).map(|(place, kind)| column(memory, *kind, rows, place)).collect::<Result<_, _>>()?;
-    Ok(Some(CompletedBatch::of(rows, columns)))
+    let columns = out.chunks_exact(32).zip(kinds).map(|(told, kind)| column(memory, *kind, rows, &place(told)));
+    Ok(Some(CompletedBatch::of(rows, columns.collect::<Result<_, _>>()?)))
 }
 
 /// One column: its values, its bitmap, and the buffers of its list.
 fn column(memory: &Memory, kind: Kind, rows: usize, place: &Place) -> Result<CompletedColumn, Refusal> {
-    let values = part(&memory.slots, place.values, rows * place.width)?.to_vec();
-    let bitmap = part(&memory.slots, place.bitmap, rows.div_ceil(8))?.to_vec();
+    let values = part(&memory.slots, place.values, rows * place.width)?;
+    let bitmap = part(&memory.slots, place.bitmap, rows.div_ceil(8))?;
     let list = part(&memory.slots, place.list, 4 * place.listed)?;
     let (text, parts) = texts(memory, list)?;
     CompletedColumn::of(kind, rows, values, bitmap, text, parts).ok_or(Refusal::State)

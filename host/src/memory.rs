@@ -72,7 +72,7 @@ fn zeros(bytes: usize) -> Result<Vec<u8>, Error> {
 }
 
 /// The refusal in the upper 32 bits, or the value in the lower.
-fn split(answer: u64) -> Result<u32, u32> {
+pub(crate) fn split(answer: u64) -> Result<u32, u32> {
     match (answer >> 32) as u32 {
         0 => Ok(answer as u32),
         number => Err(number),
