@@ -242,7 +242,14 @@ def page(repository, text):
     return before + begin + '\n' + made(repository) + end + after
 
 
+def is_use(arguments):
+    return arguments in ([], ['--write'], ['--check']) or len(arguments) == 2 and arguments[0] == '--hard' and arguments[1].isdigit()
+
+
 def main(arguments):
+    if not is_use(arguments):
+        print('usage: believed.py [--write | --check | --hard N]')
+        return 2
     try:
         repository = antt.Repository(ROOT)
         if arguments[:1] == ['--hard']:

@@ -296,6 +296,8 @@ def room_again(x):
 
 
 def main():
+    if len(sys.argv) != 2:
+        sys.exit('usage: edges.py CAPTURE')
     x = Capture()
     for part in (cuts, all_kinds, null_rows, attach_or_compact, walks, set_ups, ranges, open_blocks, older_state, records, room, room_again):
         part(x)

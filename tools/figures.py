@@ -29,6 +29,8 @@ def seconds(log):
 
 
 def main():
+    if len(sys.argv) not in (2, 3):
+        sys.exit('usage: figures.py LOG [MOST]')
     checks, edits = seconds(pathlib.Path(sys.argv[1]).read_text())
     names = sorted(checks, key=lambda n: -(checks[n] + edits.get(n, 0)))
     rows = [(n, *crate(pathlib.Path('crates') / n), checks[n], edits.get(n, 0)) for n in names]

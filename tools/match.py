@@ -66,6 +66,8 @@ def table():
 
 
 def main():
+    if len(sys.argv) not in (2, 3):
+        sys.exit('usage: match.py CAPTURE [TABLE]')
     x = Capture()
     x.set_up(t=4, r=8, q=3, kinds=KINDS, b=4, n=16, p=65536)
     x.limit(5)

@@ -112,6 +112,9 @@ def main(arguments):
         return 0
     if arguments:
         paths = [EDITS / f'{name}.edit' for name in arguments]
+        unknown = [path.stem for path in paths if not path.exists()]
+        if unknown:
+            raise SystemExit(f'usage: wrong_models.py [--check | NAME..]; no edit in tools/wrong-models is called {", ".join(unknown)}')
     OUT.mkdir(parents=True, exist_ok=True)
     subprocess.run([RUSTC, *FLAGS, '--crate-type', 'rlib', '--crate-name', 'puffwidget', str(ROOT / 'host/src/lib.rs'), '-o', f'{OUT}/libpuffwidget.rlib'], check=True)
     plain = build('plain')

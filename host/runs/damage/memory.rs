@@ -156,15 +156,23 @@ fn view_range(rng: &mut Rng, facts: &Facts) -> Option<Damage> {
     let c = facts.view_column(rng)?;
     let open = facts.state(14 + 4 * c) == 1;
     let damage = |name, change| Some(Damage::of(name, change, Some(14)));
-    match rng.below(4) {
+    match rng.below(5) {
         0 => damage("state: kept size", state(13 + 4 * c, rng.pick(&[0, 1, 4_095, 1_048_577, MAX]))),
         1 if open => damage("state: open block's number", state(15 + 4 * c, rng.pick(&[facts.used(), facts.state(5), MAX]))),
+        2 if open => shared(rng, facts, c),
         _ if open => Some(full_list(facts, c)),
         _ => {
             let changes = vec![state(14 + 4 * c, 1), state(15 + 4 * c, rng.pick(&[facts.used(), MAX]))];
             Some(Damage::at("state: opened, not in use", changes, Some(14), 0, 0))
         }
     }
+}
+
+/// 14: another column of views has the open block of column c.
+fn shared(rng: &mut Rng, facts: &Facts, c: usize) -> Option<Damage> {
+    let other = facts.view_column(rng).filter(|d| *d != c)?;
+    let changes = vec![state(14 + 4 * other, 1), state(15 + 4 * other, facts.state(15 + 4 * c))];
+    Some(Damage::at("state: an open block of two columns", changes, Some(14), 0, 0))
 }
 
 /// 14: the list of the slot being filled has B numbers, each of them below N, so that the open block has no place in it.

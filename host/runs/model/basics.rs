@@ -9,7 +9,7 @@ pub struct Refused {
 
 /// The clauses of the model that can refuse. 8 ("a copied row would start past 4,294,967,295") is tested and can't: a block lies in the pool,
 /// which is shorter than that.
-pub const CLAUSES: usize = 75;
+pub const CLAUSES: usize = 76;
 
 /// A test: the refusal where it does not hold.
 pub fn unless(holds: bool, number: u32, clause: &'static str) -> Result<(), Refused> {
