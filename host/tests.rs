@@ -7,11 +7,11 @@ fn column<'a>(kind: Kind, values: &'a [u8], buffers: &'a [BufferNumber]) -> Colu
 }
 
 fn bytes(values: &[u8]) -> Batch {
-    Batch::new(values.len() as u32, &[column(Kind::UInt8, values, &[])])
+    Batch::new(values.len() as u32, &[column(Kind::UInt8, values, &[])]).unwrap()
 }
 
 fn first_column(batch: &CompletedBatch) -> Vec<u8> {
-    batch.columns[0].iter().map(|row| row.as_deref().unwrap()[0]).collect()
+    batch.column(0).unwrap().u8s().unwrap().map(Option::unwrap).collect()
 }
 
 #[test]
@@ -29,13 +29,16 @@ fn a_large_batch_goes_behind_the_buffered_rows() {
 }
 
 #[test]
-fn each_refusal_has_its_number_and_a_sentence() {
-    for number in 1..=14 {
-        let refusal = Refusal::of(number).unwrap();
-        assert_eq!(refusal.number(), number);
-        assert!(refusal.to_string().starts_with(&format!("refused ({number}): ")));
+fn each_refusal_has_its_number_and_says_what_happened_and_what_to_do() {
+    assert!(Refusal::all().map(Refusal::number).eq(1..=14));
+    for refusal in Refusal::all() {
+        assert_eq!(Refusal::of(refusal.number()), refusal);
+        assert_eq!(refusal.to_string(), format!("refused ({}): {}; {}", refusal.number(), refusal.happened(), refusal.remedy()));
     }
-    assert_eq!((Refusal::of(0), Refusal::of(15)), (None, None));
+    for number in [0, 4_000, u32::MAX] {
+        assert_eq!((Refusal::of(number), Refusal::of(number).number()), (Refusal::Unknown(number), number));
+        assert!(Refusal::of(number).to_string().starts_with(&format!("refused ({number}): a number that")));
+    }
 }
 
 #[test]
@@ -43,16 +46,13 @@ fn a_refused_push_changes_nothing() {
     let mut coalescer = BatchCoalescer::new(&SetUp::new(&[Kind::UInt8], 4)).unwrap();
     coalescer.push_batch(&bytes(&[1])).unwrap();
     let before = coalescer.memory().clone();
-    let mut short = bytes(&[2, 3]);
-    short.body.pop();
-    assert_eq!(coalescer.push_batch(&short), Err(Refusal::OutsideBody));
-    let mut other = bytes(&[2, 3]);
-    other.records[0] = 1;
+    let (batch, mut memory) = (bytes(&[2, 3]), before.clone());
+    assert_eq!(memory.push_batch(batch.records(), &batch.body()[..1], 2), Err(Refusal::OutsideBody.number()));
+    assert!(memory == before);
+    let other = Batch::new(2, &[column(Kind::Int8, &[2, 3], &[])]).unwrap();
     assert_eq!(coalescer.push_batch(&other), Err(Refusal::Record));
-    let held = [BufferNumber(5)];
-    let views = inline_view(b"Lata");
-    let column = column(Kind::UInt8, &views[..1], &held);
-    assert_eq!(coalescer.push_batch(&Batch::new(1, &[column])), Err(Refusal::Record));
+    let listed = Batch::new(1, &[column(Kind::UInt8, &[2], &[BufferNumber(5)])]).unwrap();
+    assert_eq!(coalescer.push_batch(&listed), Err(Refusal::Record));
     assert!(*coalescer.memory() == before);
 }
 
@@ -63,8 +63,9 @@ fn a_push_with_an_older_state_is_refused_and_changes_nothing() {
     let set_up = SetUp { rows: 8, queue: 2, lists: 8, numbers: 8, pool: 18_293, ..SetUp::new(&[Kind::Utf8View; 2], 8) };
     let mut coalescer = BatchCoalescer::new(&set_up).unwrap();
     let held = [coalescer.register_buffer(&text, 10_001).unwrap()];
-    let (long, short) = (long_view(&text, 0, 0, 5_000), inline_view(b"a"));
-    coalescer.push_batch(&Batch::new(1, &[column(Kind::Utf8View, &short, &[]), column(Kind::Utf8View, &long, &held)])).unwrap();
+    let (long, short) = (long_view(&text, 0, 0, 5_000).unwrap(), inline_view(b"a").unwrap());
+    let batch = Batch::new(1, &[column(Kind::Utf8View, &short, &[]), column(Kind::Utf8View, &long, &held)]).unwrap();
+    coalescer.push_batch(&batch).unwrap();
     let older = coalescer.memory().state.clone(); // its second column has a block open
     coalescer.finish_buffered_batch().unwrap();
     coalescer.next_completed_batch().unwrap();
@@ -72,25 +73,18 @@ fn a_push_with_an_older_state_is_refused_and_changes_nothing() {
     coalescer.register_buffer(&[], 0).unwrap();
     coalescer.let_go(BufferNumber(1)).unwrap();
     let names = [b"Asha".as_slice(), b"Bhavani", b"Chitra"];
-    let views = names.map(inline_view).concat();
-    coalescer.push_batch(&Batch::new(3, &[column(Kind::Utf8View, &views, &[]), column(Kind::Utf8View, &views, &[])])).unwrap();
+    let views = names.map(|name| inline_view(name).unwrap()).concat();
+    let batch = Batch::new(3, &[column(Kind::Utf8View, &views, &[]), column(Kind::Utf8View, &views, &[])]).unwrap();
+    coalescer.push_batch(&batch).unwrap();
     coalescer.finish_buffered_batch().unwrap();
     let mut memory = Memory { state: older, ..coalescer.memory().clone() };
     let before = memory.clone();
-    let batch = Batch::new(1, &[column(Kind::Utf8View, &long, &held), column(Kind::Utf8View, &long, &held)]);
-    assert_eq!(memory.push_batch(&batch.records, &batch.body, 1), Err(14));
+    let batch = Batch::new(1, &[column(Kind::Utf8View, &long, &held), column(Kind::Utf8View, &long, &held)]).unwrap();
+    assert_eq!(memory.push_batch(batch.records(), batch.body(), 1), Err(14));
     assert!(memory == before);
     let taken = coalescer.next_completed_batch().unwrap().unwrap();
-    for column in &taken.columns {
-        assert!(column.iter().zip(names).all(|(row, name)| row.as_deref() == Some(name)));
-    }
-}
-
-#[test]
-fn set_up_outside_its_bounds_is_refused() {
-    for (target, queue) in [(0, 8), (65_537, 8), (4, 0), (4, 1_025)] {
-        let set_up = SetUp { target, queue, rows: 65_536, ..SetUp::new(&[Kind::UInt8], 4) };
-        assert_eq!(BatchCoalescer::new(&set_up).err(), Some(Refusal::SetUp));
+    for column in taken.columns() {
+        assert!(column.strings().unwrap().eq(names.map(Some)));
     }
 }
 
@@ -99,16 +93,14 @@ fn nulls_and_long_names_come_back() {
     let names = b"Gurpreet Kaur BhullarHarini Subramanian";
     let mut coalescer = BatchCoalescer::new(&SetUp::new(&[Kind::Utf8View], 3)).unwrap();
     let number = coalescer.register_buffer(names, 4_000).unwrap();
-    let views = [long_view(names, 0, 0, 21), inline_view(b"none"), long_view(names, 0, 21, 18)].concat();
+    let views = [long_view(names, 0, 0, 21), inline_view(b"none"), long_view(names, 0, 21, 18)].map(Result::unwrap).concat();
     let validity = Some(Validity { bitmap: &[0b1010_0000], first_bit: 5 });
     let column = Column { kind: Kind::Utf8View, values: &views, validity, buffers: &[number] };
-    coalescer.push_batch(&Batch::new(3, &[column])).unwrap();
+    coalescer.push_batch(&Batch::new(3, &[column]).unwrap()).unwrap();
     coalescer.let_go(number).unwrap();
     coalescer.register_buffer(b"somebody else's name, in the room that was freed", 48).unwrap();
     let batch = coalescer.next_completed_batch().unwrap().unwrap();
-    assert_eq!(batch.columns[0][0].as_deref(), Some(&names[..21]));
-    assert_eq!(batch.columns[0][1], None);
-    assert_eq!(batch.columns[0][2].as_deref(), Some(&names[21..]));
+    assert!(batch.column(0).unwrap().strings().unwrap().eq([Some(&names[..21]), None, Some(&names[21..])]));
 }
 
 #[test]
@@ -117,9 +109,9 @@ fn a_full_queue_refuses_and_a_taken_batch_makes_room() {
     let mut coalescer = BatchCoalescer::new(&set_up).unwrap();
     coalescer.push_batch(&bytes(&[1])).unwrap();
     assert_eq!(coalescer.push_batch(&bytes(&[2])), Err(Refusal::QueueFull));
-    assert_eq!(coalescer.next_completed_batch().unwrap().unwrap().rows, 1);
+    assert_eq!(coalescer.next_completed_batch().unwrap().unwrap().num_rows(), 1);
     coalescer.push_batch(&bytes(&[2])).unwrap();
-    assert_eq!(coalescer.next_completed_batch().unwrap().unwrap().columns[0][0].as_deref(), Some(&[2][..]));
+    assert_eq!(first_column(&coalescer.next_completed_batch().unwrap().unwrap()), [2]);
     assert_eq!(coalescer.next_completed_batch(), Ok(None));
 }
 
@@ -136,7 +128,7 @@ fn a_buffer_reads_back_until_nothing_holds_it() {
 #[test]
 fn bytes_that_code_no_state_are_1_then_14_and_their_limit_can_be_set() {
     // one column of a byte a row: T 3, R 5, Q 1, B 1, N 1
-    let mut memory = Memory::of(2 * (5 + 1), 0, 4 + 20 + 4 * 2 * 2);
+    let mut memory = Memory::of(2 * (5 + 1), 0, 4 + 20 + 4 * 2 * 2).unwrap();
     memory.set_up(&1u32.to_le_bytes(), 3, 5, 1, 1, 1).unwrap();
     (memory.state[28], memory.state[56]) = (2, 2); // the flags of the limit and of the column's open block
     let mut longer = memory.clone();

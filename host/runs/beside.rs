@@ -44,7 +44,7 @@ pub struct Beside {
 impl Beside {
     pub fn new(set_up: SetUp) -> Beside {
         let sizes = SetUpSizes::of(&set_up).expect("small sizes");
-        let mut memory = Memory::of(sizes.slots, sizes.pool, sizes.books);
+        let mut memory = Memory::of(sizes.slots, sizes.pool, sizes.books).unwrap();
         let kinds: Vec<u8> = set_up.kinds.iter().flat_map(|kind| kind.number().to_le_bytes()).collect();
         let s = &set_up;
         memory.set_up(&kinds, s.target, s.rows, s.queue, s.lists, s.numbers).expect("a set-up within bounds");
@@ -85,7 +85,7 @@ impl Beside {
     pub fn push(&mut self, rows: usize, columns: &[Made], tally: &mut Tally) {
         let before = self.memory.clone();
         let batch = batch_of(rows, columns);
-        match self.memory.push_batch(&batch.records, &batch.body, batch.rows) {
+        match self.memory.push_batch(batch.records(), batch.body(), batch.rows()) {
             Ok(()) => {
                 let prepared = self.prepared(rows, columns);
                 self.judge.push(&prepared);

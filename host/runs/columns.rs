@@ -63,15 +63,15 @@ fn length(rng: &mut Rng, most: usize) -> usize {
 /// A view of a row of this length into one of the buffers, or inline.
 fn view(rng: &mut Rng, buffers: &[&[u8]], length: usize) -> [u8; 16] {
     if length <= 12 {
-        return inline_view(&rng.bytes(length));
+        return inline_view(&rng.bytes(length)).unwrap();
     }
     let fitting: Vec<usize> = (0..buffers.len()).filter(|i| buffers[*i].len() >= length).collect();
     if fitting.is_empty() {
-        return inline_view(&rng.bytes(length % 13));
+        return inline_view(&rng.bytes(length % 13)).unwrap();
     }
     let index = rng.pick(&fitting);
     let offset = rng.below(buffers[index].len() - length + 1);
-    long_view(buffers[index], index as u32, offset, length)
+    long_view(buffers[index], index as u32, offset, length).unwrap()
 }
 
 /// A column of views over buffers that are held, some of them listed twice.
@@ -143,5 +143,5 @@ pub fn batch_of(rows: usize, columns: &[Made]) -> Batch {
             buffers: list,
         })
         .collect();
-    Batch::new(rows as u32, &columns)
+    Batch::new(rows as u32, &columns).expect("columns of these rows")
 }

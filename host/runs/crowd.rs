@@ -27,7 +27,7 @@ fn row(name: &str, port: f64) {
 fn set_up() -> Memory {
     let set_up = SetUp { rows: 1_024, queue: 4, lists: 1_024, numbers: 65_536, pool: 8 << 20, ..SetUp::new(&[Kind::Utf8View], 1_024) };
     let sizes = SetUpSizes::of(&set_up).expect("sizes");
-    let mut memory = Memory::of(sizes.slots, sizes.pool, sizes.books);
+    let mut memory = Memory::of(sizes.slots, sizes.pool, sizes.books).unwrap();
     let kinds = Kind::Utf8View.number().to_le_bytes();
     memory.set_up(&kinds, set_up.target, set_up.rows, set_up.queue, set_up.lists, set_up.numbers).expect("a set-up within bounds");
     memory
@@ -42,12 +42,12 @@ fn register_and_let_go(memory: &mut Memory) {
 fn views(memory: &mut Memory, spread: usize) -> Batch {
     let bytes: Vec<u8> = (0..20_000).map(|i| i as u8).collect();
     let number = memory.register_buffer(&bytes, (spread * bytes.len()) as u32).expect("room");
-    let values = (0..1_000).flat_map(|i| long_view(&bytes, 0, 20 * i, 20)).collect();
+    let values = (0..1_000).flat_map(|i| long_view(&bytes, 0, 20 * i, 20).unwrap()).collect();
     batch_of(1_000, &[Made { kind: Kind::Utf8View, values, validity: None, list: vec![number] }])
 }
 
 fn push_and_drop(memory: &mut Memory, batch: &Batch) {
-    memory.push_batch(&batch.records, &batch.body, batch.rows).expect("room");
+    memory.push_batch(batch.records(), batch.body(), batch.rows()).expect("room");
     while memory.has_completed_batch() {
         black_box(memory.next_completed_batch().expect("a batch"));
     }

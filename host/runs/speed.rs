@@ -3,9 +3,10 @@
 //! A run pushes one batch many times and drops batches as they complete. Memory is not cleared between pushes: the port's pool, slots
 //! and books are warm, and so is what the Rust's allocator gives again. `memcpy` copies the bytes that a push moves, to warm memory.
 //! `speed [ROUNDS [NAME]]`: the rows whose name has NAME in it; times are of this machine, ratios travel better. The last rows are of the
-//! port alone, with many live buffers.
+//! port alone: batches read back by the crate, and calls with many live buffers.
 
 mod crowd;
+mod reading;
 
 use judge::{Judge, JudgeBuffer, JudgeColumn, Prepared, prepare};
 use puffwidget::layout::SetUpSizes;
@@ -68,8 +69,8 @@ fn cases() -> Vec<Case> {
 fn strings(case: &Case, rng: &mut Rng) -> (Vec<u8>, Vec<u8>) {
     let bytes = rng.bytes(case.rows * case.string);
     let view = |i: usize| match case.string {
-        0..=12 => inline_view(&bytes[i * case.string..][..case.string]),
-        length => long_view(&bytes, 0, i * length, length),
+        0..=12 => inline_view(&bytes[i * case.string..][..case.string]).unwrap(),
+        length => long_view(&bytes, 0, i * length, length).unwrap(),
     };
     let values = (0..case.rows).flat_map(view).collect();
     (values, bytes)
@@ -90,7 +91,7 @@ fn bench(case: &Case) -> Bench {
     let is_view = case.kinds[0].is_view();
     let set_up = SetUp { rows: 1_024, queue: 4, lists: 2_048.min(1_024), pool: 8 << 20, ..SetUp::new(&case.kinds, case.target) };
     let sizes = SetUpSizes::of(&set_up).unwrap();
-    let mut memory = Memory::of(sizes.slots, sizes.pool, sizes.books);
+    let mut memory = Memory::of(sizes.slots, sizes.pool, sizes.books).unwrap();
     let kinds: Vec<u8> = case.kinds.iter().flat_map(|kind| kind.number().to_le_bytes()).collect();
     memory.set_up(&kinds, set_up.target, set_up.rows, set_up.queue, set_up.lists, set_up.numbers).unwrap();
     memory.set_biggest_coalesce_batch_size(case.limit).unwrap();
@@ -129,7 +130,7 @@ impl Bench {
     fn port(&mut self, n: usize) -> f64 {
         let started = Instant::now();
         for _ in 0..n {
-            self.memory.push_batch(&self.batch.records, &self.batch.body, self.batch.rows).expect("room");
+            self.memory.push_batch(self.batch.records(), self.batch.body(), self.batch.rows()).expect("room");
             while self.memory.has_completed_batch() {
                 black_box(self.memory.next_completed_batch().unwrap());
             }
@@ -181,6 +182,9 @@ fn main() {
             bench.moved as f64 / port,
             100.0 * memcpy / port
         );
+    }
+    if only.as_ref().is_none_or(|word| "read back".contains(&word[..])) {
+        reading::rows(rounds);
     }
     if only.is_none_or(|word| "live buffers".contains(&word[..])) {
         crowd::lying_in_order(rounds);

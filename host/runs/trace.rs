@@ -61,8 +61,8 @@ impl Trace {
     }
 
     pub fn push(&mut self, batch: &Batch, buffered: usize, queued: usize) {
-        self.call(4, &[batch.rows], &batch.records, &batch.body);
-        self.say(format!("push {}: done, buffered {buffered}, queued {queued}", batch.rows));
+        self.call(4, &[batch.rows()], batch.records(), batch.body());
+        self.say(format!("push {}: done, buffered {buffered}, queued {queued}", batch.rows()));
     }
 
     pub fn finish(&mut self, buffered: usize, queued: usize) {

@@ -139,7 +139,7 @@ impl World {
 
     /// A push of these views with this list in column c; the other columns' rows are plain and inline.
     pub fn push_in(&self, rows: usize, c: usize, views: Vec<u8>, list: Vec<u32>) -> Call {
-        let plain = |kind: &Kind| if kind.is_view() { inline_view(b"row").repeat(rows) } else { vec![1; rows * kind.width()] };
+        let plain = |kind: &Kind| if kind.is_view() { inline_view(b"row").unwrap().repeat(rows) } else { vec![1; rows * kind.width()] };
         let made = |kind: &Kind| Made { kind: *kind, values: plain(kind), validity: None, list: Vec::new() };
         let mut columns: Vec<Made> = self.set_up.kinds.iter().map(made).collect();
         if let Some(column) = columns.get_mut(c) {
@@ -170,5 +170,5 @@ impl World {
 /// The push of a batch.
 fn push_of(rows: usize, columns: &[Made]) -> Call {
     let batch = batch_of(rows, columns);
-    Call::Push { records: batch.records, body: batch.body, rows: batch.rows }
+    Call::Push { records: batch.records().to_vec(), body: batch.body().to_vec(), rows: batch.rows() }
 }

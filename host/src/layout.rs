@@ -1,8 +1,10 @@
 //! Where things lie in lent memory, as docs/LAYOUT.md says: the lengths that set-up wants, and what tests read past the calls.
+//!
+//! [`Reader`] and [`word`] panic where the memory is not that of a set-up: they are for memory that no test damaged.
 
 use crate::{Kind, Memory, SetUp};
 
-/// The word at a place.
+/// The word at a place; panics where there are no 4 bytes.
 pub fn word(bytes: &[u8], at: usize) -> u32 {
     u32::from_le_bytes(bytes[at..at + 4].try_into().unwrap())
 }
@@ -10,8 +12,11 @@ pub fn word(bytes: &[u8], at: usize) -> u32 {
 /// The lengths of lent memory.
 #[derive(Clone, Copy, PartialEq, Eq, Debug)]
 pub struct SetUpSizes {
+    /// bytes of the slots
     pub slots: usize,
+    /// bytes of the books
     pub books: usize,
+    /// bytes of the pool
     pub pool: usize,
 }
 
@@ -42,15 +47,21 @@ fn slot_size(kinds: &[Kind], rows: usize, lists: usize) -> usize {
 /// An entry of the books.
 #[derive(Clone, Copy, PartialEq, Eq, Debug)]
 pub struct Entry {
+    /// where in the pool
     pub start: usize,
+    /// the bytes that it occupies
     pub capacity: usize,
+    /// the bytes that it fills
     pub length: usize,
+    /// 1 where the caller holds it
     pub hold: u32,
+    /// how many lists name it, an open block once
     pub listings: u32,
 }
 
 /// Memory in which a set-up stands, read by its layout.
 pub struct Reader<'a> {
+    /// the memory
     pub memory: &'a Memory,
     kinds: Vec<Kind>,
     rows: usize,
@@ -59,6 +70,10 @@ pub struct Reader<'a> {
 }
 
 impl<'a> Reader<'a> {
+    /// Reads the set-up out of the state.
+    ///
+    /// # Panics
+    /// If the state is not that of a set-up.
     pub fn new(memory: &'a Memory) -> Reader<'a> {
         let at = |i: usize| word(&memory.state, 4 * i) as usize;
         let kinds = (0..at(3)).map(|c| Kind::of(at(12 + 4 * c) as u32).expect("a kind")).collect();
@@ -70,10 +85,12 @@ impl<'a> Reader<'a> {
         word(&self.memory.state, 4 * i) as usize
     }
 
+    /// Batches queued.
     pub fn queued(&self) -> usize {
         self.state(10)
     }
 
+    /// Rows buffered.
     pub fn buffered(&self) -> usize {
         self.state(11)
     }
@@ -99,9 +116,15 @@ impl<'a> Reader<'a> {
         (self.state(14 + 4 * c) == 1).then(|| self.state(15 + 4 * c) as u32)
     }
 
+    /// A buffer's entry.
     pub fn entry(&self, number: u32) -> Entry {
         let at = |i: usize| word(&self.memory.books, 4 + 20 * number as usize + 4 * i);
         Entry { start: at(0) as usize, capacity: at(1) as usize, length: at(2) as usize, hold: at(3), listings: at(4) }
+    }
+
+    /// The numbers of buffers that are held or listed.
+    pub fn live(&self) -> impl Iterator<Item = u32> {
+        (0..self.numbers as u32).filter(|number| self.entry(*number).hold + self.entry(*number).listings > 0)
     }
 
     /// The bytes that a buffer fills.
@@ -115,6 +138,7 @@ impl<'a> Reader<'a> {
         word(&self.memory.books, 4 + 20 * self.numbers + 4 * ((1 + self.kinds.len()) * slot + k)) as usize
     }
 
+    /// The rows of a slot.
     pub fn rows_in(&self, slot: usize) -> usize {
         self.count(slot, 0)
     }
@@ -124,22 +148,34 @@ impl<'a> Reader<'a> {
         slot * slot_size(&self.kinds, self.rows, self.lists) + slot_size(&self.kinds[..c], self.rows, self.lists)
     }
 
+    /// Where the values, the bitmap and the list of column c of a slot begin.
+    pub fn column_places(&self, slot: usize, c: usize) -> [usize; 3] {
+        let values = self.column_place(slot, c);
+        let bitmap = values + self.rows * self.kinds[c].width();
+        [values, bitmap, bitmap + self.rows.div_ceil(8)]
+    }
+
+    /// The list length of column c of a slot.
+    pub fn listed(&self, slot: usize, c: usize) -> usize {
+        self.count(slot, c + 1)
+    }
+
     /// The first n rows' values.
     pub fn values(&self, slot: usize, c: usize, n: usize) -> &'a [u8] {
-        let at = self.column_place(slot, c);
+        let [at, ..] = self.column_places(slot, c);
         &self.memory.slots[at..at + n * self.kinds[c].width()]
     }
 
     /// The bitmap bytes of the first n rows.
     pub fn bitmap(&self, slot: usize, c: usize, n: usize) -> &'a [u8] {
-        let at = self.column_place(slot, c) + self.rows * self.kinds[c].width();
+        let [_, at, _] = self.column_places(slot, c);
         &self.memory.slots[at..at + n.div_ceil(8)]
     }
 
     /// The list of a column.
     pub fn list(&self, slot: usize, c: usize) -> Vec<u32> {
-        let at = self.column_place(slot, c) + self.rows * self.kinds[c].width() + self.rows.div_ceil(8);
-        (0..self.count(slot, c + 1)).map(|i| word(&self.memory.slots, at + 4 * i)).collect()
+        let [_, _, at] = self.column_places(slot, c);
+        (0..self.listed(slot, c)).map(|i| word(&self.memory.slots, at + 4 * i)).collect()
     }
 
     /// N.
@@ -147,6 +183,7 @@ impl<'a> Reader<'a> {
         self.numbers
     }
 
+    /// The kinds of the columns.
     pub fn kinds(&self) -> &[Kind] {
         &self.kinds
     }

@@ -1,28 +1,78 @@
-//! The four memories that a coalescer lends, owned, and each call of the C layer on them: its answer is 01's number.
+//! The four memories that a coalescer lends, owned, and each call of the C layer on them: its answer is 01's number. This is the layer
+//! of plain bytes under [`crate::BatchCoalescer`], for tests and for hosts that speak of records and bodies themselves.
 //!
 //! Every method is safe: the slices of one call are distinct vectors, and the port reads and writes only inside them (proved).
 
-use crate::sys;
+use crate::{Error, sys};
+use std::alloc::{Layout, alloc_zeroed};
+use std::fmt;
 
-/// State, slots, pool and books, lent to every call. The fields are open for tests, which damage and compare them.
-#[derive(Clone, PartialEq, Eq, Debug)]
+/// State, slots, pool and books, lent to every call. The fields are open for tests, which damage and compare them; whatever they hold,
+/// a call reads and writes inside them only, and refuses what is out of range.
+#[derive(Clone, PartialEq, Eq)]
 pub struct Memory {
+    /// 304 bytes
     pub state: Vec<u8>,
+    /// the batches' rows, bitmaps and lists
     pub slots: Vec<u8>,
+    /// the bytes of buffers and blocks
     pub pool: Vec<u8>,
+    /// who holds which buffer, and the counts of the slots
     pub books: Vec<u8>,
+}
+
+impl fmt::Debug for Memory {
+    fn fmt(&self, f: &mut fmt::Formatter<'_>) -> fmt::Result {
+        let lengths = [&self.state, &self.slots, &self.pool, &self.books].map(Vec::len);
+        let mut shown = f.debug_struct("Memory");
+        for (name, bytes) in ["state_bytes", "slots_bytes", "pool_bytes", "books_bytes"].iter().zip(lengths) {
+            shown.field(name, &bytes);
+        }
+        shown.finish()
+    }
 }
 
 /// What reading a row answers: 01, "a row is null or a value, and a value is in its row or in a buffer".
 #[derive(Clone, Copy, PartialEq, Eq, Debug)]
 pub enum RowAnswer {
+    /// the row is null
     Null,
-    InRow { start: u64, length: u32 },
-    InBuffer { number: u32, offset: u32, length: u32 },
+    /// the value stands in the row itself
+    InRow {
+        /// where in the slots
+        start: u64,
+        /// its bytes
+        length: u32,
+    },
+    /// the value stands in a buffer
+    InBuffer {
+        /// the buffer's number
+        number: u32,
+        /// where in the buffer
+        offset: u32,
+        /// its bytes
+        length: u32,
+    },
+}
+
+/// Zeros, or the word that the machine has no memory for them. Pages that the port never writes are never taken.
+fn zeros(bytes: usize) -> Result<Vec<u8>, Error> {
+    let none = Error::NoMemory { bytes };
+    let layout = Layout::array::<u8>(bytes).map_err(|_| none)?;
+    if bytes == 0 {
+        return Ok(Vec::new());
+    }
+    // Safety: the layout is of at least one byte.
+    let start = unsafe { alloc_zeroed(layout) };
+    if start.is_null() {
+        return Err(none);
+    }
+    // Safety: the allocator gave so many bytes, all zero, by the layout of a vector of that capacity.
+    Ok(unsafe { Vec::from_raw_parts(start, bytes, bytes) })
 }
 
 /// The refusal in the upper 32 bits, or the value in the lower.
-fn split(answer: u64) -> Result<u32, u32> {
+pub(crate) fn split(answer: u64) -> Result<u32, u32> {
     match (answer >> 32) as u32 {
         0 => Ok(answer as u32),
         number => Err(number),
@@ -42,9 +92,9 @@ macro_rules! call {
 }
 
 impl Memory {
-    /// Memory of these sizes, zeros.
-    pub fn of(slots: usize, pool: usize, books: usize) -> Memory {
-        Memory { state: vec![0; 304], slots: vec![0; slots], pool: vec![0; pool], books: vec![0; books] }
+    /// Memory of these sizes, zeros; refused where the machine does not give it.
+    pub fn of(slots: usize, pool: usize, books: usize) -> Result<Memory, Error> {
+        Ok(Memory { state: zeros(304)?, slots: zeros(slots)?, pool: zeros(pool)?, books: zeros(books)? })
     }
 
     /// Set-up; the kinds are words, one a column.
@@ -55,6 +105,7 @@ impl Memory {
         ))
     }
 
+    /// Pushes a batch of records of 32 bytes and a body.
     pub fn push_batch(&mut self, records: &[u8], body: &[u8], rows: u32) -> Result<(), u32> {
         done(call!(
             pw_push_batch, self, [state as_mut_ptr, slots as_mut_ptr, pool as_mut_ptr, books as_mut_ptr],
@@ -62,6 +113,7 @@ impl Memory {
         ))
     }
 
+    /// Queues the buffered rows.
     pub fn finish_buffered_batch(&mut self) -> Result<(), u32> {
         done(call!(pw_finish_buffered_batch, self, [state as_mut_ptr, slots as_mut_ptr, pool as_ptr, books as_mut_ptr]))
     }
@@ -71,6 +123,7 @@ impl Memory {
         split(call!(pw_next_completed_batch, self, [state as_mut_ptr, slots as_ptr, pool as_ptr, books as_mut_ptr]))
     }
 
+    /// Lends bytes to views: their number.
     pub fn register_buffer(&mut self, bytes: &[u8], capacity: u32) -> Result<u32, u32> {
         split(call!(
             pw_register_buffer, self, [state as_ptr, slots as_ptr, pool as_mut_ptr, books as_mut_ptr],
@@ -78,6 +131,7 @@ impl Memory {
         ))
     }
 
+    /// Lets a buffer go.
     pub fn let_go(&mut self, buffer: u32) -> Result<(), u32> {
         done(call!(pw_let_go, self, [state as_ptr, slots as_ptr, pool as_ptr, books as_mut_ptr], buffer))
     }
@@ -95,6 +149,7 @@ impl Memory {
         )
     }
 
+    /// What a row of the front batch is and where it stands.
     pub fn read_row(&self, column: u32, row: u32) -> Result<RowAnswer, u32> {
         let mut out = [0u8; 20];
         done(call!(
@@ -109,24 +164,29 @@ impl Memory {
         })
     }
 
+    /// The limit, or none; 1 where the state is not of 304 bytes.
     pub fn set_biggest_coalesce_batch_size(&mut self, limit: Option<u32>) -> Result<(), u32> {
         let (set, rows) = limit.map_or((0, 0), |rows| (1, rows));
         done(call!(pw_set_biggest_coalesce_batch_size, self, [state as_mut_ptr], set, rows))
     }
 
+    /// The limit.
     pub fn biggest_coalesce_batch_size(&self) -> Option<u32> {
         let answer = call!(pw_biggest_coalesce_batch_size, self, [state as_ptr]);
         (answer >> 32 == 1).then_some(answer as u32)
     }
 
+    /// Rows that wait for more.
     pub fn get_buffered_rows(&self) -> u32 {
         call!(pw_get_buffered_rows, self, [state as_ptr])
     }
 
+    /// A batch can be taken.
     pub fn has_completed_batch(&self) -> bool {
         call!(pw_has_completed_batch, self, [state as_ptr]) == 1
     }
 
+    /// Nothing is buffered and nothing can be taken.
     pub fn is_empty(&self) -> bool {
         call!(pw_is_empty, self, [state as_ptr]) == 1
     }

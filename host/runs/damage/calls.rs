@@ -30,7 +30,7 @@ pub fn set_up_bound(rng: &mut Rng, tally: &mut Tally) {
         n => return columns(rng, &s, n, tally),
     };
     let sizes = SetUpSizes::of(&s).expect("sizes");
-    let mut memory = Memory::of(sizes.slots, sizes.pool, sizes.books);
+    let mut memory = Memory::of(sizes.slots, sizes.pool, sizes.books).unwrap();
     let _ = tally.check(&mut memory, &Call::SetUp(kinds_of(&s), wanted_of(&s)), Some(number), name);
 }
 
@@ -54,7 +54,7 @@ fn columns(rng: &mut Rng, s: &SetUp, n: usize, tally: &mut Tally) {
         s.kinds = vec![Kind::UInt8; rng.within(15, 17)];
     }
     let sizes = SetUpSizes::of(&s).expect("sizes");
-    let mut memory = Memory::of(sizes.slots, sizes.pool, sizes.books);
+    let mut memory = Memory::of(sizes.slots, sizes.pool, sizes.books).unwrap();
     let mut kinds = kinds_of(&s);
     let (name, number) = match n {
         8 => ("set-up: columns", (s.kinds.len() > 16) as u32),
@@ -85,7 +85,7 @@ fn columns(rng: &mut Rng, s: &SetUp, n: usize, tally: &mut Tally) {
 /// room.
 pub fn largest_pool(tally: &mut Tally) {
     for (pool, wanted) in [(1usize << 32, 1), ((1 << 32) - 1, 0)] {
-        let mut memory = Memory::of(0, pool, 4 + 20 + 4 * 2);
+        let mut memory = Memory::of(0, pool, 4 + 20 + 4 * 2).unwrap();
         let model = new_state(Lengths::of(&memory), &[], [1; 5]);
         let got = memory.set_up(&[], 1, 1, 1, 1, 1).err().unwrap_or(0);
         let state = model.as_ref().map_or(vec![0; 304], |state| state.coded());

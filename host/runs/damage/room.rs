@@ -72,7 +72,7 @@ pub fn list_edges(rng: &mut Rng, world: &World, tally: &mut Tally) {
     let count = (lists + 2).saturating_sub(rng.below(4)).max(1);
     let rows = rng.within(1, most);
     let buffer = &fits[rng.below(fits.len())];
-    let views = long_view(&buffer.bytes, 0, 0, buffer.bytes.len()).repeat(rows);
+    let views = long_view(&buffer.bytes, 0, 0, buffer.bytes.len()).unwrap().repeat(rows);
     let call = world.push_in(rows, c, views, vec![buffer.number; count]);
     let name = if full { "a list's edge, the queue full" } else { "a list's edge" };
     let _ = tally.check(&mut world.memory.clone(), &call, foretold(&world, rows, buffer, count), name);
@@ -134,7 +134,7 @@ pub fn block_edges(rng: &mut Rng, world: &World, tally: &mut Tally) {
     let rows = rng.within(1, world.set_up.rows as usize);
     let each = ((entry.capacity - entry.length) / rows).clamp(13, 1_200);
     let lengths: Vec<usize> = (0..rows).map(|_| rng.pick(&[each, each + 1, each - 1, each / 2, 2 * each]).clamp(13, 1_200)).collect();
-    let views = lengths.iter().flat_map(|length| long_view(&buffer.bytes, 0, rng.below(1_201 - length), *length)).collect();
+    let views = lengths.iter().flat_map(|length| long_view(&buffer.bytes, 0, rng.below(1_201 - length), *length).unwrap()).collect();
     let count = 2 * lengths.iter().sum::<usize>() / 1_200 + 1;
     let call = world.push_in(rows, c, views, vec![buffer.number; count]);
     let _ = tally.check(&mut world.memory.clone(), &call, None, "push: about the open block's rest");
@@ -173,7 +173,7 @@ pub fn walk_edges(rng: &mut Rng, world: &World, tally: &mut Tally) {
     if lengths.len() > world.set_up.rows as usize {
         return;
     }
-    let views = lengths.iter().flat_map(|length| long_view(&buffer.bytes, 0, rng.below(3_001 - length), *length)).collect();
+    let views = lengths.iter().flat_map(|length| long_view(&buffer.bytes, 0, rng.below(3_001 - length), *length).unwrap()).collect();
     let count = 2 * lengths.iter().sum::<usize>() / 3_000 + 1;
     let call = world.push_in(lengths.len(), c, views, vec![buffer.number; count]);
     let _ = tally.check(&mut world.memory.clone(), &call, None, "push: a walk to the open block's end");

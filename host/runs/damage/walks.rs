@@ -65,8 +65,8 @@ fn walk(rng: &mut Rng, world: &World, c: usize, buffer: &Held) -> Call {
     lengths.extend((0..rng.below(3)).map(|_| rng.below(13)));
     lengths.truncate(world.set_up.rows as usize);
     let view = |length: usize, rng: &mut Rng| match length {
-        0..=12 => inline_view(&buffer.bytes[..length]),
-        _ => long_view(&buffer.bytes, 0, rng.below(most + 1 - length), length),
+        0..=12 => inline_view(&buffer.bytes[..length]).unwrap(),
+        _ => long_view(&buffer.bytes, 0, rng.below(most + 1 - length), length).unwrap(),
     };
     let views = lengths.iter().flat_map(|length| view(*length, rng)).collect();
     let count = if rng.one_in(6) { 1 } else { 2 * lengths.iter().sum::<usize>() / most + 1 };

@@ -26,7 +26,7 @@ fn next<'a>(capture: &mut &'a [u8]) -> Option<Item<'a>> {
 
 /// What must be printed for a capture.
 pub fn said(mut capture: &[u8]) -> Vec<u8> {
-    let mut player = Player { memory: Memory::of(0, 0, 0), lent: [0; 3], said: Vec::new() };
+    let mut player = Player { memory: Memory::of(0, 0, 0).unwrap(), lent: [0; 3], said: Vec::new() };
     while let Some(item) = next(&mut capture) {
         player.play(&item);
     }

@@ -1,0 +1,194 @@
+//! A batch that came out, by column: its bytes are its own, and typed iterators go over its rows.
+
+use crate::kind::{Primitive, kinds};
+use crate::layout::word;
+use crate::{Error, Kind};
+use std::borrow::Cow;
+use std::fmt;
+use std::ops::Range;
+
+/// A batch that came out.
+#[derive(Clone, PartialEq, Eq)]
+pub struct CompletedBatch {
+    rows: usize,
+    columns: Vec<CompletedColumn>,
+}
+
+impl CompletedBatch {
+    pub(crate) fn of(rows: usize, columns: Vec<CompletedColumn>) -> CompletedBatch {
+        CompletedBatch { rows, columns }
+    }
+
+    /// Its rows.
+    pub fn num_rows(&self) -> usize {
+        self.rows
+    }
+
+    /// Its columns.
+    pub fn num_columns(&self) -> usize {
+        self.columns.len()
+    }
+
+    /// A column, the first 0.
+    pub fn column(&self, column: usize) -> Result<&CompletedColumn, Error> {
+        self.columns.get(column).ok_or(Error::NoColumn { column, columns: self.columns.len() })
+    }
+
+    /// All columns in order.
+    pub fn columns(&self) -> &[CompletedColumn] {
+        &self.columns
+    }
+}
+
+/// A column that came out, in Arrow's layout: values one behind the other, a bit a row, and for views the buffers that they name. Two
+/// are equal where kind and rows are, whatever lies under null rows and wherever strings lie.
+#[derive(Clone)]
+pub struct CompletedColumn {
+    kind: Kind,
+    rows: usize,
+    /// the values, and the bitmap behind them
+    bytes: Vec<u8>,
+    /// the buffers, one behind the other, and the part of each place of the list
+    text: Vec<u8>,
+    parts: Vec<Range<usize>>,
+}
+
+impl CompletedColumn {
+    /// A column of these bytes; `None` where a view leads outside them.
+    pub(crate) fn of(kind: Kind, rows: usize, values: &[u8], bitmap: &[u8], text: Vec<u8>, parts: Vec<Range<usize>>) -> Option<Self> {
+        let inside = |view: &[u8]| match word(view, 0) as usize {
+            0..=12 => true,
+            length => parts.get(word(view, 8) as usize).is_some_and(|part| word(view, 12) as usize + length <= part.len()),
+        };
+        let whole = values.len() == rows * kind.width() && (!kind.is_view() || values.chunks_exact(kind.width()).all(inside));
+        whole.then(|| CompletedColumn { kind, rows, bytes: [values, bitmap].concat(), text, parts })
+    }
+
+    /// Its kind.
+    pub fn kind(&self) -> Kind {
+        self.kind
+    }
+
+    /// Its rows.
+    pub fn num_rows(&self) -> usize {
+        self.rows
+    }
+
+    /// The rows' values, one behind the other, little-endian; of a view 16 bytes, in Arrow's layout.
+    pub fn values(&self) -> &[u8] {
+        &self.bytes[..self.rows * self.kind.width()]
+    }
+
+    /// One bit a row from bit 0 on, least significant first, 1 valid; spare bits are 0.
+    pub fn validity(&self) -> &[u8] {
+        &self.bytes[self.rows * self.kind.width()..]
+    }
+
+    /// The buffers that long views name by place.
+    pub fn buffers(&self) -> impl ExactSizeIterator<Item = &[u8]> {
+        self.parts.iter().map(|part| &self.text[part.clone()])
+    }
+
+    /// How many rows are null.
+    pub fn null_count(&self) -> usize {
+        self.rows.saturating_sub(self.validity().iter().map(|byte| byte.count_ones() as usize).sum())
+    }
+
+    /// The row is null; false past the last row.
+    pub fn is_null(&self, row: usize) -> bool {
+        row < self.rows && self.validity().get(row / 8).is_some_and(|byte| byte >> (row % 8) & 1 == 0)
+    }
+
+    /// The bytes of a row, `Some(None)` for null, `None` past the last row: a value's little-endian bytes, or those of a string.
+    pub fn row(&self, row: usize) -> Option<Option<&[u8]>> {
+        (row < self.rows).then(|| if self.is_null(row) { None } else { self.shown(row) })
+    }
+
+    /// The bytes of every row in order, `None` for null.
+    pub fn bytes(&self) -> impl ExactSizeIterator<Item = Option<&[u8]>> {
+        (0..self.rows).map(|row| self.row(row).flatten())
+    }
+
+    /// What a row that is not null shows.
+    fn shown(&self, row: usize) -> Option<&[u8]> {
+        let value = self.bytes.get(row * self.kind.width()..)?.get(..self.kind.width())?;
+        if !self.kind.is_view() {
+            return Some(value);
+        }
+        match word(value, 0) as usize {
+            length @ 0..=12 => value.get(4..4 + length),
+            length => {
+                let buffer = self.text.get(self.parts.get(word(value, 8) as usize)?.clone())?;
+                buffer.get(word(value, 12) as usize..)?.get(..length)
+            }
+        }
+    }
+
+    /// The rows of strings or bytes, `None` for null; refused where the column is not of views.
+    pub fn strings(&self) -> Result<impl ExactSizeIterator<Item = Option<&[u8]>>, Error> {
+        self.held_to(self.kind.is_view(), Kind::Utf8View)?;
+        Ok(self.bytes())
+    }
+
+    /// The same as text; bytes that are not UTF-8, which nobody checks on their way in, show as the replacement character.
+    pub fn texts(&self) -> Result<impl ExactSizeIterator<Item = Option<Cow<'_, str>>>, Error> {
+        Ok(self.strings()?.map(|row| row.map(String::from_utf8_lossy)))
+    }
+
+    /// The rows of a plain kind, `None` for null; refused where the column is of another kind.
+    pub fn typed<K: Primitive>(&self) -> Result<impl ExactSizeIterator<Item = Option<K::Value>>, Error> {
+        self.held_to(self.kind == K::KIND, K::KIND)?;
+        let rows = self.values().chunks_exact(self.kind.width()).enumerate();
+        Ok(rows.map(|(row, value)| if self.is_null(row) { None } else { K::Bytes::try_from(value).ok().map(K::value) }))
+    }
+
+    fn held_to(&self, right: bool, asked: Kind) -> Result<(), Error> {
+        if right { Ok(()) } else { Err(Error::WrongKind { is: self.kind, asked }) }
+    }
+}
+
+impl PartialEq for CompletedColumn {
+    fn eq(&self, other: &CompletedColumn) -> bool {
+        self.kind == other.kind && self.bytes().eq(other.bytes())
+    }
+}
+
+impl Eq for CompletedColumn {}
+
+macro_rules! typed {
+    ($($name:ident $kind:ident $value:ty;)*) => {
+        /// The rows of the number kinds, each refused where the column is of another kind; [`CompletedColumn::typed`] has all kinds.
+        impl CompletedColumn {$(
+            #[doc = concat!("The rows of [`kinds::", stringify!($kind), "`], `None` for null.")]
+            pub fn $name(&self) -> Result<impl ExactSizeIterator<Item = Option<$value>>, Error> {
+                self.typed::<kinds::$kind>()
+            }
+        )*}
+    };
+}
+
+typed! {
+    i8s Int8 i8;
+    i16s Int16 i16;
+    i32s Int32 i32;
+    i64s Int64 i64;
+    u8s UInt8 u8;
+    u16s UInt16 u16;
+    u32s UInt32 u32;
+    u64s UInt64 u64;
+    f32s Float32 f32;
+    f64s Float64 f64;
+}
+
+impl fmt::Debug for CompletedBatch {
+    fn fmt(&self, f: &mut fmt::Formatter<'_>) -> fmt::Result {
+        f.debug_struct("CompletedBatch").field("rows", &self.rows).field("columns", &self.columns).finish()
+    }
+}
+
+impl fmt::Debug for CompletedColumn {
+    fn fmt(&self, f: &mut fmt::Formatter<'_>) -> fmt::Result {
+        let (nulls, buffers) = (self.null_count(), self.parts.len());
+        f.debug_struct("CompletedColumn").field("kind", &self.kind).field("nulls", &nulls).field("buffers", &buffers).finish()
+    }
+}
