@@ -14,6 +14,7 @@ use borrow.Author.Tests.{ltb-true, ltb-false, leb-true, leb-false, le-ltb, lt-lt
 use Rattle.search.specs.Cases.{by-cond}
 use Rattle.search.specs.First.{firstFrom, first, Lowest}
 use Rattle.search.specs.FirstLaws.{at-is, at-says, nothing-says}
+use Rattle.counts.specs.declared.ByteCount.{ByteCount}
 use Rattle.counts.specs.declared.ByteSum.{ByteSum}
 use Rattle.blocks.specs.declared.BufferSource.{BufferSource}
 use Rattle.blocks.specs.declared.NextSize.{NextSize}
@@ -130,9 +131,11 @@ pub kept-stays : (size min : ℕ) {once : ℕ} → once ≡ doubled size → min
 unfolding kept
 kept-stays size min e h = rw (← e, le-ltb _ min h)
 
-pub asked-is : (source : BufferSource) (min : ByteSum) {size answer : ℕ} → size ≡ kept (source .current .0) (min .0) → answer ≡ max size (min .0) → next size answer ≡ asked source min
+pub asked-is : (source : BufferSource) (min : ByteSum) {size : ByteCount} {answer : ℕ} → size .0 ≡ kept (source .current .0) (min .0) → answer ≡ max (size .0) (min .0)
+    → _≡_ {A = NextSize} (record { source = record { current = size }; size = record { 0 = answer } }) (asked source min)
 unfolding asked
-asked-is source min e f = rw (f, e)
+asked-is source min {size} {answer} e f =
+    ap (λ (k : ℕ). next k answer) e ∙ ap (next (kept (source .current .0) (min .0))) (f ∙ ap (λ (k : ℕ). max k (min .0)) e)
 
 -- a size that a history of asks keeps: 4,096 doubled at most 8 times
 pub record Power (size : ℕ) : Type 0 where

@@ -22,35 +22,35 @@ pub struct NextSize {
 }
 
 // The size doubled, if it is below the largest.
-fn double(size: u32) -> u32
-    ensures { λ r. ⌜ r ≡ doubled size ⌝ }
+fn double(size: ByteCount) -> ByteCount
+    ensures { λ r. ⌜ r .0 ≡ doubled (size .0) ⌝ }
 {
-    if size < MAX_BLOCK_SIZE {
-        size * 2
+    if size.0 < MAX_BLOCK_SIZE {
+        ByteCount(size.0 * 2)
     } else {
         size
     }
 }
 
 // The size doubled while it is at most the minimum and below the largest.
-fn grow(size: u32, min: u64) -> u32
-    requires { ⌜ 1 ≤ size ⌝ }
-    ensures { λ r. ⌜ r ≡ grown size min ⌝ }
+fn grow(size: ByteCount, min: ByteSum) -> ByteCount
+    requires { ⌜ 1 ≤ size .0 ⌝ }
+    ensures { λ r. ⌜ r .0 ≡ grown (size .0) (min .0) ⌝ }
 {
-    let mut s = size;
-    while (s as u64) <= min && s < MAX_BLOCK_SIZE {
+    let mut s = size.0;
+    while (s as u64) <= min.0 && s < MAX_BLOCK_SIZE {
         s = s * 2;
     }
-    s
+    ByteCount(s)
 }
 
 // The size that one ask keeps.
-fn keep(size: u32, min: u64) -> u32
-    requires { ⌜ 1 ≤ size ⌝ }
-    ensures { λ r. ⌜ r ≡ kept size min ⌝ }
+fn keep(size: ByteCount, min: ByteSum) -> ByteCount
+    requires { ⌜ 1 ≤ size .0 ⌝ }
+    ensures { λ r. ⌜ r .0 ≡ kept (size .0) (min .0) ⌝ }
 {
     let once = double(size);
-    if (once as u64) < min {
+    if (once.0 as u64) < min.0 {
         grow(once, min)
     } else {
         once
@@ -72,12 +72,10 @@ impl BufferSource {
         requires { ⌜ 1 ≤ self .current .0 ⌝ }
         ensures { λ r. ⌜ r ≡ asked self min ⌝ }
     {
-        let size = keep(self.current.0, min.0);
+        let size = keep(self.current, min);
         NextSize {
-            source: BufferSource {
-                current: ByteCount(size),
-            },
-            size: ByteSum(counts::larger(size as u64, min.0)),
+            source: BufferSource { current: size },
+            size: ByteSum(counts::larger(size.0 as u64, min.0)),
         }
     }
 }

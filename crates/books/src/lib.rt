@@ -29,11 +29,11 @@ pub enum Gap {
 }
 
 // The entry of number i.
-pub fn entry_at(books: &[u8], i: usize) -> Entry
-    requires { ⌜ 24 + 20 * i ≤ length (now books) ⌝ }
-    ensures { λ r. ⌜ r ≡ entryOf (now (books .entry)) i ⌝ }
+pub fn entry_at(books: &[u8], i: BufferNumber) -> Entry
+    requires { ⌜ 24 + 20 * i .0 ≤ length (now books) ⌝ }
+    ensures { λ r. ⌜ r ≡ entryOf (now (books .entry)) (i .0) ⌝ }
 {
-    let at = 4 + 20 * i;
+    let at = 4 + 20 * (i.0 as usize);
     Entry {
         start: words::get32(books, at),
         capacity: ByteCount(words::get32(books, at + 4)),
@@ -44,11 +44,11 @@ pub fn entry_at(books: &[u8], i: usize) -> Entry
 }
 
 // The entry e for number i, and nothing else changed.
-pub fn put_entry(books: &mut [u8], i: usize, e: Entry)
-    requires { ⌜ 24 + 20 * i ≤ length (now books) ⌝ }
-    ensures { λ _. ⌜ now (books .exit) ≡ withEntry (now (books .entry)) i e ⌝ }
+pub fn put_entry(books: &mut [u8], i: BufferNumber, e: Entry)
+    requires { ⌜ 24 + 20 * i .0 ≤ length (now books) ⌝ }
+    ensures { λ _. ⌜ now (books .exit) ≡ withEntry (now (books .entry)) (i .0) e ⌝ }
 {
-    let at = 4 + 20 * i;
+    let at = 4 + 20 * (i.0 as usize);
     words::put32(books, at, e.start);
     words::put32(books, at + 4, e.capacity.0);
     words::put32(books, at + 8, e.length.0);

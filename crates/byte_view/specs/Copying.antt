@@ -25,7 +25,7 @@ unfoldable pub walkRows : (ℕ → View) → ℕ → ℕ → ℕ
 walkRows f n rest = orAll n (first (λ i. ltb (rest - longTo f i) (f i .length)) n)
 
 unfoldable pub walkOf : (ℕ → View) → ℕ → ℕ → Walked
-walkOf f n rest = record { rows = walkRows f n rest; bytes = record { 0 = longTo f (walkRows f n rest) } }
+walkOf f n rest = record { rows = record { 0 = walkRows f n rest }; bytes = record { 0 = longTo f (walkRows f n rest) } }
 
 -- where the bytes of a long view lie in the pool: in the buffer that stands at its index in the list, from its offset on
 unfoldable pub sourceIn : List ℕ → List ℕ → ℕ → View → ℕ

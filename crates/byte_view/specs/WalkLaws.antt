@@ -40,7 +40,7 @@ walking-more {body} {at} {rest} {left} i {v} {x} w q h e =
     }
 
 -- the walk stops at view i
-pub walked-at : {body : List ℕ} {at rest left : ℕ} (i n : ℕ) {v : View} → Walking body at rest left i → i < n → v ≡ viewOf body (at + i * 16) → left < v .length → _≡_ {A = Walked} (record { rows = i; bytes = record { 0 = rest - left } }) (walkOf (viewsAt body at) n rest)
+pub walked-at : {body : List ℕ} {at rest left : ℕ} (i n : ℕ) {v : View} → Walking body at rest left i → i < n → v ≡ viewOf body (at + i * 16) → left < v .length → _≡_ {A = Walked} (record { rows = record { 0 = i }; bytes = record { 0 = rest - left } }) (walkOf (viewsAt body at) n rest)
 unfolding walkOf walkRows
 walked-at {body} {at} {rest} {left} i n {v} w a q h =
     let t = w .taken in
@@ -51,7 +51,7 @@ walked-at {body} {at} {rest} {left} i n {v} w a q h =
     rw (← s, d)
 
 -- or takes them all
-pub walked-all : {body : List ℕ} {at rest left i : ℕ} (n : ℕ) → Walking body at rest left i → i ≤ n → n ≤ i → _≡_ {A = Walked} (record { rows = n; bytes = record { 0 = rest - left } }) (walkOf (viewsAt body at) n rest)
+pub walked-all : {body : List ℕ} {at rest left i : ℕ} (n : ℕ) → Walking body at rest left i → i ≤ n → n ≤ i → _≡_ {A = Walked} (record { rows = record { 0 = n }; bytes = record { 0 = rest - left } }) (walkOf (viewsAt body at) n rest)
 unfolding walkOf walkRows
 walked-all {body} {at} {rest} {left} {i} n w a b =
     let t = w .taken in

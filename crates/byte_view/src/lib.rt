@@ -6,7 +6,9 @@ ghost use lib.ListN.{length};
 ghost use Rattle.rules.specs.Batch.{wayOf};
 ghost use Rattle.rules.specs.Copies.{viewsAt, longTo};
 ghost use Rattle.byte_view.specs.Copying.{capacities, walkOf, Entered};
+use counts::BufferNumber;
 use counts::ByteSum;
+use counts::RowCount;
 use rules::Way;
 
 // What is decided once of a pushed column, `Source` in the Rust: its ideal size, and the way that it goes.
@@ -16,13 +18,13 @@ pub struct Source {
 }
 
 // Ideal, `total_buffer_bytes_used`: the sum of the lengths over 12 of so many views from `at` of the body on, null rows too.
-pub fn ideal_of(body: &[u8], at: usize, rows: u32) -> ByteSum
-    requires { ⌜ (rows ≤ 65536) × (at + rows * 16 ≤ length (now body)) ⌝ }
-    ensures { λ r. ⌜ (r .0 ≡ longTo (viewsAt (now (body .entry)) at) rows) × (r .0 < 2 ^ 49) ⌝ }
+pub fn ideal_of(body: &[u8], at: usize, rows: RowCount) -> ByteSum
+    requires { ⌜ (rows .0 ≤ 65536) × (at + rows .0 * 16 ≤ length (now body)) ⌝ }
+    ensures { λ r. ⌜ (r .0 ≡ longTo (viewsAt (now (body .entry)) at) (rows .0)) × (r .0 < 2 ^ 49) ⌝ }
 {
     let mut sum: u64 = 0;
     let mut i: u32 = 0;
-    while i < rows {
+    while i < rows.0 {
         let v = views::view_at(body, at + (i as usize) * 16);
         sum += views::long_length(v).0;
         i += 1;
@@ -39,7 +41,7 @@ pub fn actual_of(books: &[u8], body: &[u8], list: usize, count: u32) -> ByteSum
     let mut i: u32 = 0;
     while i < count {
         let k = words::get32(body, list + 4 * (i as usize));
-        let e = books::entry_at(books, k as usize);
+        let e = books::entry_at(books, BufferNumber(k));
         sum += e.capacity.0 as u64;
         i += 1;
     }
@@ -62,22 +64,22 @@ pub fn way_of(ideal: ByteSum, actual: ByteSum) -> Way
 
 // What the walk takes: so many views, and the bytes of the long ones among them.
 pub struct Walked {
-    pub rows: u32,
+    pub rows: RowCount,
     pub bytes: ByteSum,
 }
 
 // The walk over n views from `at` of the body on, while the rest is at least the length; long ones lower the rest.
-pub fn walk(body: &[u8], at: usize, n: u32, rest: ByteSum) -> Walked
-    requires { ⌜ (n ≤ 65536) × (at + n * 16 ≤ length (now body)) ⌝ }
-    ensures { λ r. ⌜ (r ≡ walkOf (viewsAt (now (body .entry)) at) n (rest .0)) × (r .rows ≤ n) × (r .bytes .0 ≤ rest .0) ⌝ }
+pub fn walk(body: &[u8], at: usize, n: RowCount, rest: ByteSum) -> Walked
+    requires { ⌜ (n .0 ≤ 65536) × (at + n .0 * 16 ≤ length (now body)) ⌝ }
+    ensures { λ r. ⌜ (r ≡ walkOf (viewsAt (now (body .entry)) at) (n .0) (rest .0)) × (r .rows .0 ≤ n .0) × (r .bytes .0 ≤ rest .0) ⌝ }
 {
     let mut left = rest.0;
     let mut i: u32 = 0;
-    while i < n {
+    while i < n.0 {
         let v = views::view_at(body, at + (i as usize) * 16);
         if left < (v.length as u64) {
             return Walked {
-                rows: i,
+                rows: RowCount(i),
                 bytes: ByteSum(rest.0 - left),
             };
         }

@@ -10,6 +10,8 @@ ghost use Rattle.rules.specs.Batch.{batch};
 ghost use Rattle.rules.specs.Checks.{inBody, columnFault, batchFault, faultOf};
 ghost use Rattle.checks.specs.Checked.{faultAt, rowFaultOf};
 ghost use Rattle.column_checks.specs.Tested.{badFrom, Pooled, Heeded};
+use counts::ByteSum;
+use counts::RowCount;
 use rules::ColumnRecord;
 use rules::Fault;
 use state::BatchCoalescer;
@@ -27,12 +29,19 @@ fn fault(number: u32, column: u32, row: u32) -> Fault
 }
 
 // 7 for column c: the first row at fault, where it is a column of views.
-fn row_fault(books: &[u8], pool: &[u8], body: &[u8], r: ColumnRecord, rows: u32, c: u32) -> Fault
-    requires { ⌜ (Heeded (now books) (now pool) (now body) (r .list) (r .count)) × (rows ≤ 65536) × (inBody (r .values) (rows * 16) (length (now body)) ≡ true) ⌝ }
-    ensures { λ f. ⌜ f ≡ rowFaultOf (badFrom (now (books .entry)) (now (pool .entry)) (now (body .entry)) r rows) rows c ⌝ }
+fn row_fault(
+    books: &[u8],
+    pool: &[u8],
+    body: &[u8],
+    r: ColumnRecord,
+    rows: RowCount,
+    c: u32,
+) -> Fault
+    requires { ⌜ (Heeded (now books) (now pool) (now body) (r .list) (r .count)) × (rows .0 ≤ 65536) × (inBody (r .values) (rows .0 * 16) (length (now body)) ≡ true) ⌝ }
+    ensures { λ f. ⌜ f ≡ rowFaultOf (badFrom (now (books .entry)) (now (pool .entry)) (now (body .entry)) r (rows .0)) (rows .0) c ⌝ }
 {
     let i = column_checks::bad_row(books, pool, body, r, rows);
-    if i < rows {
+    if i < rows.0 {
         fault(7, c, i)
     } else {
         fault(0, 0, 0)
@@ -47,17 +56,17 @@ fn column_fault(
     books: &[u8],
     records: &[u8],
     body: &[u8],
-    rows: u32,
+    rows: RowCount,
     c: u32,
 ) -> Fault
-    requires { ⌜ (Pooled (now books) (now pool)) × (s .columns ≤ 16) × (c < s .columns) × (rows ≤ 65536) × (32 * s .columns ≤ length (now records)) × (column ≡ columnOf s c) ⌝ }
-    ensures { λ f. ⌜ f ≡ faultOf (columnFault (world s [] (now (pool .entry)) (now (books .entry))) (batch rows (now (records .entry)) (now (body .entry))) c) ⌝ }
+    requires { ⌜ (Pooled (now books) (now pool)) × (s .columns ≤ 16) × (c < s .columns) × (rows .0 ≤ 65536) × (32 * s .columns ≤ length (now records)) × (column ≡ columnOf s c) ⌝ }
+    ensures { λ f. ⌜ f ≡ faultOf (columnFault (world s [] (now (pool .entry)) (now (books .entry))) (batch (rows .0) (now (records .entry)) (now (body .entry))) c) ⌝ }
 {
     let kind = column.kind;
     let width = layout::width_in(kind) as u32;
     let r = records::record_at(records, c);
     if column_checks::keeps_rules(r, kind) {
-        if column_checks::lies_in_body(r, rows, width, body.len() as u64) {
+        if column_checks::lies_in_body(r, rows, width, ByteSum(body.len() as u64)) {
             if column_checks::all_held(books, body, r.list, r.count) {
                 if kinds::is_view(kind) {
                     row_fault(books, pool, body, r, rows, c)
@@ -82,13 +91,13 @@ pub fn batch_fault(
     books: &[u8],
     records: &[u8],
     body: &[u8],
-    rows: u32,
+    rows: RowCount,
 ) -> Fault
     requires { ⌜ (Pooled (now books) (now pool)) × (s .columns ≤ 16) × (s .rows .0 ≤ 65536) ⌝ }
-    ensures { λ f. ⌜ f ≡ faultOf (batchFault (world s [] (now (pool .entry)) (now (books .entry))) (batch rows (now (records .entry)) (now (body .entry)))) ⌝ }
+    ensures { λ f. ⌜ f ≡ faultOf (batchFault (world s [] (now (pool .entry)) (now (books .entry))) (batch (rows .0) (now (records .entry)) (now (body .entry)))) ⌝ }
 {
     if records.len() == 32 * (s.columns as usize) {
-        if s.rows.0 < rows {
+        if s.rows.0 < rows.0 {
             return fault(3, 0, 0);
         }
         let mut c: u32 = 0;

@@ -21,11 +21,11 @@ fn push_judged(
     books: &mut [u8],
     records: &[u8],
     body: &[u8],
-    rows: u32,
+    rows: RowCount,
 ) -> Step
-    requires { ⌜ Ready s (now slots) (now pool) (now books) (batch rows (now records) (now body)) ⌝ }
+    requires { ⌜ Ready s (now slots) (now pool) (now books) (batch (rows .0) (now records) (now body)) ⌝ }
     ensures { λ r. ⌜ answered r (now (slots .exit)) (now (pool .exit)) (now (books .exit))
-        ≡ orOld (world s (now (slots .entry)) (now (pool .entry)) (now (books .entry))) (stepped (world s (now (slots .entry)) (now (pool .entry)) (now (books .entry))) (batch rows (now (records .entry)) (now (body .entry)))) ⌝ }
+        ≡ orOld (world s (now (slots .entry)) (now (pool .entry)) (now (books .entry))) (stepped (world s (now (slots .entry)) (now (pool .entry)) (now (books .entry))) (batch (rows .0) (now (records .entry)) (now (body .entry)))) ⌝ }
 {
     let sources = routes::set_sources(s, books, records, body, rows);
     let lacking = trial::room_refusal(s, books, records, body, sources, rows);
@@ -52,9 +52,9 @@ pub fn push_batch(
     ensures { λ r. ⌜ answered r (now (slots .exit)) (now (pool .exit)) (now (books .exit))
         ≡ pushCall (world s (now (slots .entry)) (now (pool .entry)) (now (books .entry))) (batch (rows .0) (now (records .entry)) (now (body .entry))) ⌝ }
 {
-    let verdict = judging::judge(s, slots, pool, books, records, body, rows.0);
+    let verdict = judging::judge(s, slots, pool, books, records, body, rows);
     match verdict {
-        Verdict::Go => push_judged(s, slots, pool, books, records, body, rows.0),
+        Verdict::Go => push_judged(s, slots, pool, books, records, body, rows),
         Verdict::Nothing => Step {
             state: s,
             number: 0,

@@ -10,7 +10,10 @@ ghost use Rattle.views.specs.View.{isValid};
 ghost use Rattle.rules.specs.Batch.{bytesListed};
 ghost use Rattle.rules.specs.Checks.{isRuled, inBody, bitmapNeed, liesWithin, heldAll};
 ghost use Rattle.column_checks.specs.Tested.{bitRuled, listRuled, bitsWithin, bufferIn, badFrom, Heeded};
+use counts::BufferNumber;
 use counts::ByteCount;
+use counts::ByteSum;
+use counts::RowCount;
 use rules::ColumnRecord;
 use views::Buffer;
 use views::View;
@@ -45,33 +48,33 @@ pub fn keeps_rules(r: ColumnRecord, kind: u32) -> bool
 }
 
 // Whether n bytes from a start on lie in so many; no bytes need no place.
-fn in_body(start: u32, n: u64, size: u64) -> bool
-    requires { ⌜ n < 2 ^ 40 ⌝ }
-    ensures { λ x. ⌜ x ≡ inBody start n size ⌝ }
+fn in_body(start: u32, n: ByteSum, size: ByteSum) -> bool
+    requires { ⌜ n .0 < 2 ^ 40 ⌝ }
+    ensures { λ x. ⌜ x ≡ inBody start (n .0) (size .0) ⌝ }
 {
-    if n == 0 {
+    if n.0 == 0 {
         true
     } else {
-        (start as u64) + n <= size
+        (start as u64) + n.0 <= size.0
     }
 }
 
 // The bytes of a bitmap that begins with bit `first`, through the byte of the last row's bit.
-fn bitmap_need(first: u32, rows: u32) -> u64
-    requires { ⌜ rows ≤ 65536 ⌝ }
-    ensures { λ n. ⌜ (n ≡ bitmapNeed first rows) × (n < 2 ^ 40) ⌝ }
+fn bitmap_need(first: u32, rows: RowCount) -> ByteSum
+    requires { ⌜ rows .0 ≤ 65536 ⌝ }
+    ensures { λ n. ⌜ (n .0 ≡ bitmapNeed first (rows .0)) × (n .0 < 2 ^ 40) ⌝ }
 {
-    if rows == 0 {
-        0
+    if rows.0 == 0 {
+        ByteSum(0)
     } else {
-        ((first as u64) + (rows as u64) + 7) / 8
+        ByteSum(((first as u64) + (rows.0 as u64) + 7) / 8)
     }
 }
 
 // 5: whether the bitmap, if there is one, lies in a body of so many bytes.
-fn bits_in_body(r: ColumnRecord, rows: u32, size: u64) -> bool
-    requires { ⌜ rows ≤ 65536 ⌝ }
-    ensures { λ x. ⌜ x ≡ bitsWithin r rows size ⌝ }
+fn bits_in_body(r: ColumnRecord, rows: RowCount, size: ByteSum) -> bool
+    requires { ⌜ rows .0 ≤ 65536 ⌝ }
+    ensures { λ x. ⌜ x ≡ bitsWithin r (rows .0) (size .0) ⌝ }
 {
     if r.validity == records::NO_VALIDITY {
         true
@@ -81,21 +84,21 @@ fn bits_in_body(r: ColumnRecord, rows: u32, size: u64) -> bool
 }
 
 // 5: whether values, bitmap and list lie in a body of so many bytes.
-pub fn lies_in_body(r: ColumnRecord, rows: u32, width: u32, size: u64) -> bool
-    requires { ⌜ (rows ≤ 65536) × (width ≤ 32) ⌝ }
-    ensures { λ x. ⌜ x ≡ liesWithin r rows width size ⌝ }
+pub fn lies_in_body(r: ColumnRecord, rows: RowCount, width: u32, size: ByteSum) -> bool
+    requires { ⌜ (rows .0 ≤ 65536) × (width ≤ 32) ⌝ }
+    ensures { λ x. ⌜ x ≡ liesWithin r (rows .0) width (size .0) ⌝ }
 {
-    in_body(r.values, (rows as u64) * (width as u64), size)
-        & (bits_in_body(r, rows, size) & in_body(r.list, 4 * (r.count as u64), size))
+    in_body(r.values, ByteSum((rows.0 as u64) * (width as u64)), size)
+        & (bits_in_body(r, rows, size) & in_body(r.list, ByteSum(4 * (r.count as u64)), size))
 }
 
 // Whether the caller holds a buffer.
-fn is_held(books: &[u8], k: u32) -> bool
+fn is_held(books: &[u8], k: BufferNumber) -> bool
     requires { ⌜ 4 + 20 * usedOf (now books) ≤ length (now books) ⌝ }
-    ensures { λ x. ⌜ x ≡ isHeld (now (books .entry)) k ⌝ }
+    ensures { λ x. ⌜ x ≡ isHeld (now (books .entry)) (k .0) ⌝ }
 {
-    if k < words::get32(books, 0) {
-        books::entry_at(books, k as usize).hold != 0
+    if k.0 < words::get32(books, 0) {
+        books::entry_at(books, k).hold != 0
     } else {
         false
     }
@@ -108,7 +111,7 @@ pub fn all_held(books: &[u8], body: &[u8], list: u32, count: u32) -> bool
 {
     let mut i: u32 = 0;
     while i < count {
-        let k = words::get32(body, (list as usize) + 4 * (i as usize));
+        let k = BufferNumber(words::get32(body, (list as usize) + 4 * (i as usize)));
         if is_held(books, k) {
             i += 1;
         } else {
@@ -119,11 +122,11 @@ pub fn all_held(books: &[u8], body: &[u8], list: u32, count: u32) -> bool
 }
 
 // The buffer of a number.
-fn buffer_of(books: &[u8], k: u32) -> Buffer
-    requires { ⌜ 24 + 20 * k ≤ length (now books) ⌝ }
-    ensures { λ b. ⌜ b ≡ bufferIn (now (books .entry)) k ⌝ }
+fn buffer_of(books: &[u8], k: BufferNumber) -> Buffer
+    requires { ⌜ 24 + 20 * k .0 ≤ length (now books) ⌝ }
+    ensures { λ b. ⌜ b ≡ bufferIn (now (books .entry)) (k .0) ⌝ }
 {
-    let e = books::entry_at(books, k as usize);
+    let e = books::entry_at(books, k);
     Buffer {
         start: e.start,
         capacity: ByteCount(e.capacity.0),
@@ -140,7 +143,7 @@ fn is_valid(v: View, books: &[u8], pool: &[u8], body: &[u8], list: u32, count: u
         views::is_padded(v)
     } else if v.index < count {
         let k = words::get32(body, (list as usize) + 4 * (v.index as usize));
-        let b = buffer_of(books, k);
+        let b = buffer_of(books, BufferNumber(k));
         views::in_buffer(v, b, pool)
     } else {
         false
@@ -148,12 +151,12 @@ fn is_valid(v: View, books: &[u8], pool: &[u8], body: &[u8], list: u32, count: u
 }
 
 // 7: the first of the rows whose view is not valid, and their count where all are.
-pub fn bad_row(books: &[u8], pool: &[u8], body: &[u8], r: ColumnRecord, rows: u32) -> u32
-    requires { ⌜ (Heeded (now books) (now pool) (now body) (r .list) (r .count)) × (rows ≤ 65536) × (inBody (r .values) (rows * 16) (length (now body)) ≡ true) ⌝ }
-    ensures { λ i. ⌜ i ≡ badFrom (now (books .entry)) (now (pool .entry)) (now (body .entry)) r rows ⌝ }
+pub fn bad_row(books: &[u8], pool: &[u8], body: &[u8], r: ColumnRecord, rows: RowCount) -> u32
+    requires { ⌜ (Heeded (now books) (now pool) (now body) (r .list) (r .count)) × (rows .0 ≤ 65536) × (inBody (r .values) (rows .0 * 16) (length (now body)) ≡ true) ⌝ }
+    ensures { λ i. ⌜ i ≡ badFrom (now (books .entry)) (now (pool .entry)) (now (body .entry)) r (rows .0) ⌝ }
 {
     let mut i: u32 = 0;
-    while i < rows {
+    while i < rows.0 {
         let v = views::view_at(body, (r.values as usize) + (i as usize) * 16);
         if is_valid(v, books, pool, body, r.list, r.count) {
             i += 1;
@@ -161,5 +164,5 @@ pub fn bad_row(books: &[u8], pool: &[u8], body: &[u8], r: ColumnRecord, rows: u3
             return i;
         }
     }
-    rows
+    rows.0
 }

@@ -15,6 +15,7 @@ use blocks::BufferSource;
 use byte_view::Source;
 use counts::BufferNumber;
 use counts::ByteSum;
+use counts::RowCount;
 use rules::Way;
 use state::BatchCoalescer;
 use state::Column;
@@ -47,11 +48,11 @@ pub fn set_source(
     books: &[u8],
     records: &[u8],
     body: &[u8],
-    rows: u32,
+    rows: RowCount,
     c: u32,
 ) -> Source
-    requires { ⌜ (Sourceable s (now books) (batch rows (now records) (now body)) c) × (c < 16) × (rows ≤ 65536) ⌝ }
-    ensures { λ r. ⌜ r ≡ sourceFor (world s [] [] (now (books .entry))) (batch rows (now (records .entry)) (now (body .entry))) c ⌝ }
+    requires { ⌜ (Sourceable s (now books) (batch (rows .0) (now records) (now body)) c) × (c < 16) × (rows .0 ≤ 65536) ⌝ }
+    ensures { λ r. ⌜ r ≡ sourceFor (world s [] [] (now (books .entry))) (batch (rows .0) (now (records .entry)) (now (body .entry))) c ⌝ }
 {
     if layout::is_views(s, c) {
         let r = records::record_at(records, c);
@@ -86,7 +87,7 @@ pub fn rest_of(books: &[u8], k: BufferNumber) -> ByteSum
     requires { ⌜ 24 + 20 * k .0 ≤ length (now books) ⌝ }
     ensures { λ r. ⌜ r .0 ≡ entryOf (now (books .entry)) (k .0) .capacity .0 - entryOf (now (books .entry)) (k .0) .length .0 ⌝ }
 {
-    let e = books::entry_at(books, k.0 as usize);
+    let e = books::entry_at(books, k);
     if e.length.0 <= e.capacity.0 {
         ByteSum((e.capacity.0 - e.length.0) as u64)
     } else {

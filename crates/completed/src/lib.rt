@@ -72,7 +72,7 @@ fn drop_front(s: BatchCoalescer, slots: &[u8], books: &mut [u8]) -> Dropped
     Dropped {
         state: t,
         number: 0,
-        rows: RowCount(rows),
+        rows: RowCount(rows.0),
     }
 }
 

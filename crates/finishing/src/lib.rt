@@ -9,6 +9,7 @@ ghost use Rattle.layout.specs.Few.{Few};
 ghost use Rattle.rules.specs.Steps.{withCounts};
 ghost use Rattle.rules.specs.Push.{finished, ifFull};
 ghost use Rattle.finishing.specs.Finish.{Closable, ClosesOne, ClosesAll, Finishes};
+use counts::RowCount;
 use rules::Step;
 use state::BatchCoalescer;
 
@@ -44,12 +45,12 @@ fn close_all(s: BatchCoalescer, slots: &mut [u8], books: &mut [u8]) -> BatchCoal
 }
 
 // The slot being filled queued with so many rows.
-pub fn queue_slot(s: BatchCoalescer, books: &mut [u8], rows: u32) -> BatchCoalescer
+pub fn queue_slot(s: BatchCoalescer, books: &mut [u8], rows: RowCount) -> BatchCoalescer
     requires { ⌜ (Few s) × (s .place ≤ s .queue) × (s .queued < s .queue) × (length (now books) ≡ booksLength s) ⌝ }
     ensures { λ r. ⌜ (r ≡ withCounts s (nextSlot s (s .place)) (s .queued + 1) 0)
-        × (now (books .exit) ≡ withTally (now (books .entry)) (tally s (s .place) 0) rows) ⌝ }
+        × (now (books .exit) ≡ withTally (now (books .entry)) (tally s (s .place) 0) (rows .0)) ⌝ }
 {
-    slot_counts::put_count(s, books, s.place, 0, rows);
+    slot_counts::put_count(s, books, s.place, 0, rows.0);
     slot_counts::next_to_fill(s)
 }
 
@@ -66,7 +67,7 @@ pub fn finish(s: BatchCoalescer, slots: &mut [u8], books: &mut [u8]) -> Step
     } else {
         if s.queued < s.queue {
             let t = close_all(s, slots, books);
-            let u = queue_slot(t, books, s.buffered.0);
+            let u = queue_slot(t, books, s.buffered);
             Step {
                 state: u,
                 number: 0,

@@ -8,6 +8,7 @@ use books::Entry;
 use books::Found;
 use books::Gap;
 use counts::BufferNumber;
+use counts::ByteCount;
 use counts::ByteSum;
 
 // The lowest free number below n.
@@ -18,7 +19,7 @@ pub fn lowest_free(books: &[u8], n: u32) -> Found
     let used = words::get32(books, 0);
     let mut i: u32 = 0;
     while i < used {
-        if books::is_free(books::entry_at(books, i as usize)) {
+        if books::is_free(books::entry_at(books, BufferNumber(i))) {
             return Found::At(BufferNumber(i));
         }
         i += 1;
@@ -31,9 +32,9 @@ pub fn lowest_free(books: &[u8], n: u32) -> Found
 }
 
 // The end of a live buffer that shares a byte with the `size` bytes from `at` on; `at` itself where it shares none.
-fn past(e: Entry, at: u64, size: u64) -> u64
-    requires { ⌜ at + size < 2 ^ 64 ⌝ }
-    ensures { λ r. ⌜ r ≡ pastEntry e at size ⌝ }
+fn past(e: Entry, at: u64, size: ByteSum) -> u64
+    requires { ⌜ at + size .0 < 2 ^ 64 ⌝ }
+    ensures { λ r. ⌜ r ≡ pastEntry e at (size .0) ⌝ }
 {
     if books::is_free(e) {
         return at;
@@ -41,38 +42,38 @@ fn past(e: Entry, at: u64, size: u64) -> u64
     let start = e.start as u64;
     let end = start + (e.capacity.0 as u64);
     let from = counts::larger(start, at);
-    let to = counts::smaller(end, at + size);
+    let to = counts::smaller(end, at + size.0);
     if from < to { end } else { at }
 }
 
 // The start `at` moved past each buffer in turn that the `size` bytes from it on share a byte with.
-fn sweep(books: &[u8], at: u64, size: u64) -> u64
-    requires { ⌜ (4 + 20 * usedOf (now books) ≤ length (now books)) × (at + size < 2 ^ 32) ⌝ }
-    ensures { λ r. ⌜ (r ≡ sweptOf (now (books .entry)) size at) × (r < 2 ^ 33) ⌝ }
+fn sweep(books: &[u8], at: u64, size: ByteSum) -> u64
+    requires { ⌜ (4 + 20 * usedOf (now books) ≤ length (now books)) × (at + size .0 < 2 ^ 32) ⌝ }
+    ensures { λ r. ⌜ (r ≡ sweptOf (now (books .entry)) (size .0) at) × (r < 2 ^ 33) ⌝ }
 {
     let used = words::get32(books, 0);
     let mut next = at;
     let mut i: u32 = 0;
     while i < used {
-        next = past(books::entry_at(books, i as usize), next, size);
+        next = past(books::entry_at(books, BufferNumber(i)), next, size);
         i += 1;
     }
     next
 }
 
 // The lowest start of `size` bytes within the pool that share no byte with a live buffer. Sweeps until one changes nothing.
-pub fn lowest_gap(books: &[u8], pool: u32, size: ByteSum) -> Gap
+pub fn lowest_gap(books: &[u8], pool: ByteCount, size: ByteSum) -> Gap
     requires { ⌜ 4 + 20 * usedOf (now books) ≤ length (now books) ⌝ }
-    ensures { λ r. ⌜ r ≡ lowestGap (now (books .entry)) pool (size .0) ⌝ }
+    ensures { λ r. ⌜ r ≡ lowestGap (now (books .entry)) (pool .0) (size .0) ⌝ }
 {
     let want = size.0;
-    let end = pool as u64;
+    let end = pool.0 as u64;
     if end < want {
         return Gap::Nothing;
     }
     let mut at: u64 = 0;
     while at <= end - want {
-        let next = sweep(books, at, want);
+        let next = sweep(books, at, size);
         if next == at {
             return Gap::Start(at as u32);
         }

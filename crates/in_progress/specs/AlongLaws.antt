@@ -49,11 +49,11 @@ module _ {w v : World} {b : Batch} {r : ColumnRecord} {p : Rows} (a : Along w v)
 
 pub long-on : {w v : World} (b : Batch) (p : Rows) → Along w v → longOf v b p ≡ longOf w b p
 unfolding longOf
-long-on {w} {v} b p a = same-long-before w v b (a .beside .set-up) (p .column) (p .from) (p .count)
+long-on {w} {v} b p a = same-long-before w v b (a .beside .set-up) (p .column) (p .from) (p .count .0)
 
 -- ---- other rows of the part
 
-module _ {w : World} {b : Batch} {r : ColumnRecord} {p : Rows} (x : ViewPart w b r p) (k : ℕ) (h : k ≤ p .count) where
+module _ {w : World} {b : Batch} {r : ColumnRecord} {p : Rows} (x : ViewPart w b r p) (k : ℕ) (h : k ≤ p .count .0) where
   pub first-part : ViewPart w b r (firstRows p k)
   first-part =
       record {
@@ -89,13 +89,13 @@ module _ {w : World} {b : Batch} {r : ColumnRecord} {p : Rows} (x : ViewPart w b
   pub long-both : longOf w b p ≡ longOf w b (firstRows p k) + longOf w b (rowsBehind p k)
   unfolding longOf
   long-both =
-      let e : k + (p .count - k) ≡ p .count = omega arith in
-      rw e at (before-more w b (p .column) (p .from) k (p .count - k))
+      let e : k + (p .count .0 - k) ≡ p .count .0 = omega arith in
+      rw e at (before-more w b (p .column) (p .from) k (p .count .0 - k))
 
 -- no more bytes than ideal
 pub long-ideal : {w : World} {b : Batch} {r : ColumnRecord} {p : Rows} → ViewPart w b r p → longOf w b p ≤ ideal w b (p .column)
 unfolding longOf
-long-ideal {w} {b} {r} {p} x = part-ideal w b (p .column) (p .from) (p .count) (x .part .there)
+long-ideal {w} {b} {r} {p} x = part-ideal w b (p .column) (p .from) (p .count .0) (x .part .there)
 
 -- ---- the steps
 
@@ -117,9 +117,9 @@ compacted-along {w} {b} {r} {p} v x e =
     record {
       goes =
           holds-ok v
-          (compacted-goes w b (p .column) (p .at) (p .from) (p .count) (x .part .part .run) (x .part .part .column) (x .part .views) (x .is-open) (x .rest))
+          (compacted-goes w b (p .column) (p .at) (p .from) (p .count .0) (x .part .part .run) (x .part .part .column) (x .part .views) (x .is-open) (x .rest))
           e;
-      beside = holds-ok v (views-holds w b (p .column) (p .at) (p .from) (p .count)) e;
+      beside = holds-ok v (views-holds w b (p .column) (p .at) (p .from) (p .count .0)) e;
     }
 
 -- ---- any pool

@@ -37,10 +37,10 @@ use Rattle.in_progress.specs.AlongLaws.{views-on, closed-along}
 -- ---- attach_list
 
 module _ (s : BatchCoalescer) (slots pool books : List ℕ) (b : Batch) (p : Rows) {f : ℕ → View} {to : ℕ} (e : viewsFrom (world s slots pool books) b (p .column) (p .from) ≡ f) (q : cellPlace s (s .place) (p .column) (p .at) ≡ to) where
-  raise-views : (k : ℕ) {t : List ℕ} → t ≡ viewsPut (λ i. raisedBy k (f i)) slots to (p .count) → viewsRaised (world s slots pool books) b k (span (p .column) (p .at) (p .from) (p .count)) ≡ world s t pool books
+  raise-views : (k : ℕ) {t : List ℕ} → t ≡ viewsPut (λ i. raisedBy k (f i)) slots to (p .count .0) → viewsRaised (world s slots pool books) b k (span (p .column) (p .at) (p .from) (p .count .0)) ≡ world s t pool books
   unfolding viewsRaised
   raise-views k u =
-      ap (λ (g : ℕ → View). world s (viewsPut (λ i. raisedBy k (g i)) slots (cellPlace s (s .place) (p .column) (p .at)) (p .count)) pool books) e
+      ap (λ (g : ℕ → View). world s (viewsPut (λ i. raisedBy k (g i)) slots (cellPlace s (s .place) (p .column) (p .at)) (p .count .0)) pool books) e
       ∙ rw (q, u)
 
 module _ {s : BatchCoalescer} {slots books records body : List ℕ} {rows : ℕ} {r : ColumnRecord} {p : Rows} (a : AnyPart s slots books (batch rows records body) r p) where
@@ -98,20 +98,20 @@ module _ {s : BatchCoalescer} {slots books records body : List ℕ} {rows : ℕ}
   views-at : (w : World) → widthOf (w .state) (p .column) ≡ 16 → viewsFrom w d (p .column) (p .from) ≡ viewsAt body (r .values + p .from * 16)
   views-at w y = views-are w d (p .column) y (p .from) ∙ ap (viewsAt body) (value-at w y)
 
-  pub raise-spanned : (slots′ : List ℕ) → length slots′ ≡ length slots → Spanned body (r .values + p .from * 16) (length slots′) (p .place + p .at * 16) (p .count)
+  pub raise-spanned : (slots′ : List ℕ) → length slots′ ≡ length slots → Spanned body (r .values + p .from * 16) (length slots′) (p .place + p .at * 16) (p .count .0)
   raise-spanned slots′ z =
       record {
         few = omega (arith, x .part .room, run-bounds (x .part .run) .rows);
         read =
-            let l = values-room (x .part .reads) (p .column) (p .from) (p .count) (x .part .column) (x .part .there) in
+            let l = values-room (x .part .reads) (p .column) (p .from) (p .count .0) (x .part .column) (x .part .there) in
             rw (wide, value-at (world s slots pool books) wide) at l;
         put =
-            let l = cells-room (x .part .run) (p .column) (x .part .column) (p .at) (p .count) (x .part .room) in
+            let l = cells-room (x .part .run) (p .column) (x .part .column) (p .at) (p .count .0) (x .part .room) in
             rw (z) (rw (wide, cell-at) at l);
       }
 
   module _ {k : ℕ} (m : k + r .count ≤ s .lists) where
-    pub raise-raisable : Raisable body (r .values + p .from * 16) (p .count) k
+    pub raise-raisable : Raisable body (r .values + p .from * 16) (p .count .0) k
     raise-raisable =
         raisable-below k (r .count)
         (λ i h l.
@@ -136,14 +136,14 @@ module _ {s : BatchCoalescer} {slots books records body : List ℕ} {rows : ℕ}
             empty = λ y. list-same s slots pool books (p .column) (s .place) ∙ x .part .run .none (s .place) (p .column) (part-slot (x .part)) (x .part .column) y;
           }
 
-      pub raise-done : {slots′ slots″ books′ : List ℕ} → Attaches s slots books d (p .column) slots′ books′ → slots″ ≡ viewsPut (λ i. raisedBy k (viewsAt body (r .values + p .from * 16) i)) slots′ (p .place + p .at * 16) (p .count) → RaisesPart s slots books d k p slots″ books′
+      pub raise-done : {slots′ slots″ books′ : List ℕ} → Attaches s slots books d (p .column) slots′ books′ → slots″ ≡ viewsPut (λ i. raisedBy k (viewsAt body (r .values + p .from * 16) i)) slots′ (p .place + p .at * 16) (p .count .0) → RaisesPart s slots books d k p slots″ books′
       raise-done {slots′} {slots″} {books′} t u = record { is = λ y. go y }
         where
-          views : (y : List ℕ) → viewsRaised (world s slots′ y books′) d k (span (p .column) (p .at) (p .from) (p .count)) ≡ world s slots″ y books′
+          views : (y : List ℕ) → viewsRaised (world s slots′ y books′) d k (span (p .column) (p .at) (p .from) (p .count .0)) ≡ world s slots″ y books′
           views y = raise-views s slots′ y books′ d p (views-at (world s slots′ y books′) wide) cell-at k u
 
-          go : (y : List ℕ) → viewsRaised (listAttached (world s slots y books) d (p .column)) d k (span (p .column) (p .at) (p .from) (p .count)) ≡ world s slots″ y books′
-          go y = ap (λ (w : World). viewsRaised w d k (span (p .column) (p .at) (p .from) (p .count))) (t .is y) ∙ views y
+          go : (y : List ℕ) → viewsRaised (listAttached (world s slots y books) d (p .column)) d k (span (p .column) (p .at) (p .from) (p .count .0)) ≡ world s slots″ y books′
+          go y = ap (λ (w : World). viewsRaised w d k (span (p .column) (p .at) (p .from) (p .count .0))) (t .is y) ∙ views y
 
 -- ---- attach
 
@@ -160,7 +160,7 @@ module _ {s : BatchCoalescer} {slots books records body : List ℕ} {rows : ℕ}
   counted = sym (ap (λ (z : ColumnRecord). z .count) (any-record a))
 
   -- 10
-  refuses : s .lists < n + r .count → (pool : List ℕ) → length pool ≡ s .pool .0 → partAttached (world s slots pool books) g (span (p .column) (p .at) (p .from) (p .count)) ≡ refuse 10
+  refuses : s .lists < n + r .count → (pool : List ℕ) → length pool ≡ s .pool .0 → partAttached (world s slots pool books) g (span (p .column) (p .at) (p .from) (p .count .0)) ≡ refuse 10
   unfolding partAttached
   refuses h pool l = rw (closed-list pool l, counted, lt-leb (n + r .count) (s .lists) h)
 
@@ -168,7 +168,7 @@ module _ {s : BatchCoalescer} {slots books records body : List ℕ} {rows : ℕ}
   attach-full h = record { steps = λ pool l. steps-refused (λ z. omega arith) (refuses h pool l) }
 
   module _ (h : n + r .count ≤ s .lists) {t : BatchCoalescer} {slots′ books′ : List ℕ} (c : ClosesBlock s slots books (p .column) t slots′ books′) where
-    attaches : (pool : List ℕ) → length pool ≡ s .pool .0 → partAttached (world s slots pool books) g (span (p .column) (p .at) (p .from) (p .count)) ≡ ok (viewsRaised (listAttached (world t slots′ pool books′) g (p .column)) g n (span (p .column) (p .at) (p .from) (p .count)))
+    attaches : (pool : List ℕ) → length pool ≡ s .pool .0 → partAttached (world s slots pool books) g (span (p .column) (p .at) (p .from) (p .count .0)) ≡ ok (viewsRaised (listAttached (world t slots′ pool books′) g (p .column)) g n (span (p .column) (p .at) (p .from) (p .count .0)))
     unfolding partAttached
     attaches pool l = rw (closed-list pool l, counted, le-leb (n + r .count) (s .lists) h, c .is pool)
 

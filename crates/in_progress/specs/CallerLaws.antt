@@ -18,7 +18,7 @@ use Rattle.push_safety.specs.Run.{Run, Readable}
 use Rattle.in_progress.specs.Part.{Part, Decided, copiedBy}
 
 -- rows that may be copied
-pub part-of : {w : World} {b : Batch} {r : ColumnRecord} {p : Rows} → Run w → Readable w b → p .column < w .state .columns → r ≡ recordOf b (p .column) → p .place ≡ valuesPlace (w .state) (w .state .place) (p .column) → p .from + p .count ≤ b .rows → p .at + p .count ≤ w .state .rows .0 → Part w b r p
+pub part-of : {w : World} {b : Batch} {r : ColumnRecord} {p : Rows} → Run w → Readable w b → p .column < w .state .columns → r ≡ recordOf b (p .column) → p .place ≡ valuesPlace (w .state) (w .state .place) (p .column) → p .from + p .count .0 ≤ b .rows → p .at + p .count .0 ≤ w .state .rows .0 → Part w b r p
 part-of run reads h e q t m =
     record { run = run; reads = reads; column = h; recorded = e; placed = q; there = t; room = m }
 
@@ -37,7 +37,7 @@ module _ (w₀ w : World) (b : Batch) (c : ℕ) (e : SameSetUp (w₀ .state) (w 
       way-at = ap (λ (z : Source). z .way) q ∙ source-way w₀ b c ∙ rw (same-views e c)
 
   -- and the rows copied so are those of the definition
-  pub copied-is : (p : Rows) → p .column ≡ c → p .at ≡ w .state .buffered .0 → copiedBy w b p (x .way) ≡ columnCopied w₀ w b c (p .from) (p .count)
+  pub copied-is : (p : Rows) → p .column ≡ c → p .at ≡ w .state .buffered .0 → copiedBy w b p (x .way) ≡ columnCopied w₀ w b c (p .from) (p .count .0)
   unfolding copiedBy columnCopied
   copied-is p f g =
       let h : x .way ≡ cond (isViews (w .state) c) (way w₀ b c) Way.Copied = ap (λ (z : Source). z .way) q ∙ source-way w₀ b c ∙ rw (same-views e c) in

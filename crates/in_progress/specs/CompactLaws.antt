@@ -91,64 +91,64 @@ module _ {s : BatchCoalescer} {slots pool books records body : List ℕ} {rows :
   unfolding valuePlace
   value-at = rw (views-width s (p .column) (x .part .views), x .part .part .recorded)
 
-  pub walk-few : p .count ≤ 65536
+  pub walk-few : p .count .0 ≤ 65536
   walk-few = omega (arith, x .part .part .room, run-bounds (x .part .part .run) .rows)
 
-  pub walk-at : p .at + p .count ≤ 65536
+  pub walk-at : p .at + p .count .0 ≤ 65536
   walk-at = omega (arith, x .part .part .room, run-bounds (x .part .part .run) .rows)
 
-  pub walk-from : p .from + p .count ≤ 65536
+  pub walk-from : p .from + p .count .0 ≤ 65536
   walk-from = omega (arith, x .part .part .there, x .part .part .reads .rows-fit, run-bounds (x .part .part .run) .rows)
 
-  pub walk-read : r .values + p .from * 16 + p .count * 16 ≤ length body
+  pub walk-read : r .values + p .from * 16 + p .count .0 * 16 ≤ length body
   walk-read =
-      let l = values-room (x .part .part .reads) (p .column) (p .from) (p .count) (x .part .part .column) (x .part .part .there) in
+      let l = values-room (x .part .part .reads) (p .column) (p .from) (p .count .0) (x .part .part .column) (x .part .part .there) in
       rw (views-width s (p .column) (x .part .views), value-at) at l
 
-  module _ {k : Walked} (e : k ≡ walkOf (viewsAt body (r .values + p .from * 16)) (p .count) rest) where
-    unwalk : k .rows ≡ walkRows (viewsAt body (r .values + p .from * 16)) (p .count) rest
+  module _ {k : Walked} (e : k ≡ walkOf (viewsAt body (r .values + p .from * 16)) (p .count .0) rest) where
+    unwalk : k .rows .0 ≡ walkRows (viewsAt body (r .values + p .from * 16)) (p .count .0) rest
     unfolding walkOf
-    unwalk = ap (λ (z : Walked). z .rows) e
+    unwalk = ap (λ (z : Walked). z .rows .0) e
 
-    walk-rows : k .rows ≡ walkedOf v b rest p
+    walk-rows : k .rows .0 ≡ walkedOf v b rest p
     unfolding walkedOf
-    walk-rows = unwalk ∙ ap (λ (n : ℕ). walkRows (viewsAt body n) (p .count) rest) (sym value-at) ∙ sym (walked-is v b (p .column) (views-width s (p .column) (x .part .views)) (p .from) (p .count) rest)
+    walk-rows = unwalk ∙ ap (λ (n : ℕ). walkRows (viewsAt body n) (p .count .0) rest) (sym value-at) ∙ sym (walked-is v b (p .column) (views-width s (p .column) (x .part .views)) (p .from) (p .count .0) rest)
 
-    unbytes : k .bytes .0 ≡ longTo (viewsAt body (r .values + p .from * 16)) (k .rows)
+    unbytes : k .bytes .0 ≡ longTo (viewsAt body (r .values + p .from * 16)) (k .rows .0)
     unfolding walkOf
     unbytes = ap (λ (z : Walked). z .bytes .0) e ∙ ap (longTo (viewsAt body (r .values + p .from * 16))) (sym unwalk)
 
-    walk-bytes : k .bytes .0 ≡ longOf v b (firstRows p (k .rows))
+    walk-bytes : k .bytes .0 ≡ longOf v b (firstRows p (k .rows .0))
     unfolding longOf
     walk-bytes =
         unbytes
-        ∙ ap (λ (n : ℕ). longTo (viewsAt body n) (k .rows)) (sym value-at)
-        ∙ sym (Rattle.byte_view.specs.RuleLaws.long-before-is v b (p .column) (views-width s (p .column) (x .part .views)) (p .from) (k .rows))
+        ∙ ap (λ (n : ℕ). longTo (viewsAt body n) (k .rows .0)) (sym value-at)
+        ∙ sym (Rattle.byte_view.specs.RuleLaws.long-before-is v b (p .column) (views-width s (p .column) (x .part .views)) (p .from) (k .rows .0))
 
-    most : k .rows ≤ p .count
+    most : k .rows .0 ≤ p .count .0
     unfolding walkedOf
-    most = omega (arith, walk-rows, walked-most v b (p .column) (p .from) (p .count) rest)
+    most = omega (arith, walk-rows, walked-most v b (p .column) (p .from) (p .count .0) rest)
 
-    fit : longOf v b (firstRows p (k .rows)) ≤ openRest v (p .column)
+    fit : longOf v b (firstRows p (k .rows .0)) ≤ openRest v (p .column)
     unfolding longOf walkedOf
-    fit = rw (walk-rows) (omega (arith, walked-rest v b (p .column) (p .from) (p .count) rest, x .rest-is))
+    fit = rw (walk-rows) (omega (arith, walked-rest v b (p .column) (p .from) (p .count .0) rest, x .rest-is))
 
-    module _ {first behind : Rows} (f : first ≡ firstRows p (k .rows)) (g : behind ≡ rowsBehind p (k .rows)) where
+    module _ {first behind : Rows} (f : first ≡ firstRows p (k .rows .0)) (g : behind ≡ rowsBehind p (k .rows .0)) where
       pub walk-fits : RoomInOpen v b r first
-      walk-fits = rw f (record { part = first-part (x .part) (k .rows) most; is-open = x .is-open; rest = fit })
+      walk-fits = rw f (record { part = first-part (x .part) (k .rows .0) most; is-open = x .is-open; rest = fit })
 
       module _ {slots′ pool′ books′ : List ℕ} (o : compacting v b first ≡ ok (world s slots′ pool′ books′)) where
         on : Along v (world s slots′ pool′ books′)
         on = compacted-along (world s slots′ pool′ books′) walk-fits o
 
         pub walk-behind : ViewPart (world s slots′ pool′ books′) b r behind
-        walk-behind = rw g (views-on on (behind-part (x .part) (k .rows) most))
+        walk-behind = rw g (views-on on (behind-part (x .part) (k .rows .0) most))
 
-        left-long : longOf v b (rowsBehind p (k .rows)) ≤ ideal - k .bytes .0
-        left-long = omega (arith, long-both (x .part) (k .rows) most, long-ideal (x .part), x .ideal-is, walk-bytes)
+        left-long : longOf v b (rowsBehind p (k .rows .0)) ≤ ideal - k .bytes .0
+        left-long = omega (arith, long-both (x .part) (k .rows .0) most, long-ideal (x .part), x .ideal-is, walk-bytes)
 
         pub walk-left : longOf (world s slots′ pool′ books′) b behind ≤ ideal - k .bytes .0
-        walk-left = rw g (omega (arith, left-long, long-on b (rowsBehind p (k .rows)) on))
+        walk-left = rw g (omega (arith, left-long, long-on b (rowsBehind p (k .rows .0)) on))
 
         pub walk-steps : {q : Step} {slots″ pool″ books″ : List ℕ} → Steps (openedFor (closed (world s slots′ pool′ books′) (behind .column)) b (ideal - k .bytes .0) behind) q slots″ pool″ books″ → Steps (walkedOn v b ideal rest p) q slots″ pool″ books″
         unfolding walkedOn
@@ -166,11 +166,11 @@ module _ {s : BatchCoalescer} {slots pool books : List ℕ} {b : Batch} {r : Col
   pub compact-long : longOf u b p ≤ n
   compact-long = omega (arith, long-ideal x)
 
-  none-open : block .block ≡ OpenBlock.Closed → partCompacted u b (span (p .column) (p .at) (p .from) (p .count)) ≡ openedFor u b n p
+  none-open : block .block ≡ OpenBlock.Closed → partCompacted u b (span (p .column) (p .at) (p .from) (p .count .0)) ≡ openedFor u b n p
   unfolding partCompacted openedFor compacting
   none-open q = rw (open-is q, i)
 
-  pub compact-new : {q : Step} {slots′ pool′ books′ : List ℕ} → block .block ≡ OpenBlock.Closed → Steps (openedFor u b n p) q slots′ pool′ books′ → Steps (partCompacted u b (span (p .column) (p .at) (p .from) (p .count))) q slots′ pool′ books′
+  pub compact-new : {q : Step} {slots′ pool′ books′ : List ℕ} → block .block ≡ OpenBlock.Closed → Steps (openedFor u b n p) q slots′ pool′ books′ → Steps (partCompacted u b (span (p .column) (p .at) (p .from) (p .count .0))) q slots′ pool′ books′
   compact-new q z = rw (none-open q) z
 
   module _ {k : BufferNumber} (q : block .block ≡ OpenBlock.Number k) where
@@ -192,16 +192,16 @@ module _ {s : BatchCoalescer} {slots pool books : List ℕ} {b : Batch} {r : Col
       pub compact-walks : rest < n → Walks u b r p n rest
       compact-walks h = record { part = x; is-open = open-is q; ideal-is = i; rest-is = rest-at; short = h }
 
-      fits-open : n ≤ rest → partCompacted u b (span (p .column) (p .at) (p .from) (p .count)) ≡ compacting u b p
+      fits-open : n ≤ rest → partCompacted u b (span (p .column) (p .at) (p .from) (p .count .0)) ≡ compacting u b p
       unfolding partCompacted compacting
       fits-open h = rw (open-is q, ← i, ← rest-at, le-leb n rest h)
 
-      splits : rest < n → partCompacted u b (span (p .column) (p .at) (p .from) (p .count)) ≡ walkedOn u b n rest p
+      splits : rest < n → partCompacted u b (span (p .column) (p .at) (p .from) (p .count .0)) ≡ walkedOn u b n rest p
       unfolding partCompacted walkedOn openedFor compacting walkedOf longOf
       splits h = rw (open-is q, ← i, ← rest-at, lt-leb n rest h)
 
-      pub compact-copied : {slots′ pool′ books′ : List ℕ} → n ≤ rest → compacting u b p ≡ ok (world s slots′ pool′ books′) → Steps (partCompacted u b (span (p .column) (p .at) (p .from) (p .count))) (record { state = s; number = 0 }) slots′ pool′ books′
+      pub compact-copied : {slots′ pool′ books′ : List ℕ} → n ≤ rest → compacting u b p ≡ ok (world s slots′ pool′ books′) → Steps (partCompacted u b (span (p .column) (p .at) (p .from) (p .count .0))) (record { state = s; number = 0 }) slots′ pool′ books′
       compact-copied h z = steps-done (fits-open h ∙ z)
 
-      pub compact-walked : {y : Step} {slots′ pool′ books′ : List ℕ} → rest < n → Steps (walkedOn u b n rest p) y slots′ pool′ books′ → Steps (partCompacted u b (span (p .column) (p .at) (p .from) (p .count))) y slots′ pool′ books′
+      pub compact-walked : {y : Step} {slots′ pool′ books′ : List ℕ} → rest < n → Steps (walkedOn u b n rest p) y slots′ pool′ books′ → Steps (partCompacted u b (span (p .column) (p .at) (p .from) (p .count .0))) y slots′ pool′ books′
       compact-walked h z = rw (splits h) z

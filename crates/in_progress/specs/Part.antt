@@ -22,17 +22,17 @@ use Rattle.push_safety.specs.Run.{Run, Readable}
 
 -- the first k rows of a part, and those behind them
 abbrev pub firstRows : Rows → ℕ → Rows
-firstRows p k = record { column = p .column; place = p .place; at = p .at; from = p .from; count = k }
+firstRows p k = record { column = p .column; place = p .place; at = p .at; from = p .from; count = record { 0 = k } }
 
 abbrev pub rowsBehind : Rows → ℕ → Rows
-rowsBehind p k = record { column = p .column; place = p .place; at = p .at + k; from = p .from + k; count = p .count - k }
+rowsBehind p k = record { column = p .column; place = p .place; at = p .at + k; from = p .from + k; count = record { 0 = p .count .0 - k } }
 
 -- the bytes of their long views; the part copied into the open block
 unfoldable pub longOf : World → Batch → Rows → ℕ
-longOf w b p = longBefore w b (p .column) (p .from) (p .count)
+longOf w b p = longBefore w b (p .column) (p .from) (p .count .0)
 
 unfoldable pub compacting : World → Batch → Rows → Res
-compacting w b p = viewsCompacted w b (span (p .column) (p .at) (p .from) (p .count))
+compacting w b p = viewsCompacted w b (span (p .column) (p .at) (p .from) (p .count .0))
 
 -- a block opened for a minimum, and the part copied into it; the same where the open block is closed before; and the walk
 unfoldable pub openedFor : World → Batch → ℕ → Rows → Res
@@ -40,7 +40,7 @@ openedFor w b min p = bind (blockOpened w (p .column) min) (λ v. compacting v b
 
 -- what the walk takes of a part, where so many bytes are left in the block
 unfoldable pub walkedOf : World → Batch → ℕ → Rows → ℕ
-walkedOf w b rest p = walked w b (p .column) (p .from) (p .count) rest
+walkedOf w b rest p = walked w b (p .column) (p .from) (p .count .0) rest
 
 unfoldable pub walkedOn : World → Batch → ℕ → ℕ → Rows → Res
 walkedOn w b ideal rest p =
@@ -49,7 +49,7 @@ walkedOn w b ideal rest p =
 
 -- the rows' validity and then the rows themselves, the way that was decided
 unfoldable pub copiedBy : World → Batch → Rows → Way → Res
-copiedBy w b p y = byWay (bitsCopied w b (w .state .place) (span (p .column) (p .at) (p .from) (p .count))) b (span (p .column) (p .at) (p .from) (p .count)) y
+copiedBy w b p y = byWay (bitsCopied w b (w .state .place) (span (p .column) (p .at) (p .from) (p .count .0))) b (span (p .column) (p .at) (p .from) (p .count .0)) y
 
 -- ---- what is asked
 
@@ -60,8 +60,8 @@ pub record Part (w : World) (b : Batch) (r : ColumnRecord) (p : Rows) : Type 0 w
   pub column : p .column < w .state .columns
   pub recorded : r ≡ recordOf b (p .column)
   pub placed : p .place ≡ valuesPlace (w .state) (w .state .place) (p .column)
-  pub there : p .from + p .count ≤ b .rows
-  pub room : p .at + p .count ≤ w .state .rows .0
+  pub there : p .from + p .count .0 ≤ b .rows
+  pub room : p .at + p .count .0 ≤ w .state .rows .0
 
 -- the column is one of views
 pub record ViewPart (w : World) (b : Batch) (r : ColumnRecord) (p : Rows) : Type 0 where
@@ -95,8 +95,8 @@ pub record Decided (w : World) (b : Batch) (c : ℕ) (x : Source) : Type 0 where
 
 -- a part is attached with its list, or is not
 pub record AttachesPart (s : BatchCoalescer) (slots books : List ℕ) (b : Batch) (p : Rows) (q : Step) (slots′ books′ : List ℕ) : Type 0 where
-  pub steps : (pool : List ℕ) → length pool ≡ s .pool .0 → Steps (partAttached (world s slots pool books) b (span (p .column) (p .at) (p .from) (p .count))) q slots′ pool books′
+  pub steps : (pool : List ℕ) → length pool ≡ s .pool .0 → Steps (partAttached (world s slots pool books) b (span (p .column) (p .at) (p .from) (p .count .0))) q slots′ pool books′
 
 -- the list of a column and the views of a part behind it, their index raised by k
 pub record RaisesPart (s : BatchCoalescer) (slots books : List ℕ) (b : Batch) (k : ℕ) (p : Rows) (slots′ books′ : List ℕ) : Type 0 where
-  pub is : (pool : List ℕ) → viewsRaised (listAttached (world s slots pool books) b (p .column)) b k (span (p .column) (p .at) (p .from) (p .count)) ≡ world s slots′ pool books′
+  pub is : (pool : List ℕ) → viewsRaised (listAttached (world s slots pool books) b (p .column)) b k (span (p .column) (p .at) (p .from) (p .count .0)) ≡ world s slots′ pool books′

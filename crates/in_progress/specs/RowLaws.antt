@@ -54,7 +54,7 @@ module _ {s : BatchCoalescer} {slots pool books records body : List ℕ} {rows :
             rw (x .recorded) (omega (arith, x .reads .columns (p .column) (x .column) .bits y, x .there));
         values =
             rw (x .recorded)
-            (omega (arith, x .reads .columns (p .column) (x .column) .values, mul-le-mul-right {m = p .from + p .count} {n = rows} (widthOf s (p .column)) (x .there)));
+            (omega (arith, x .reads .columns (p .column) (x .column) .values, mul-le-mul-right {m = p .from + p .count .0} {n = rows} (widthOf s (p .column)) (x .there)));
       }
 
   module _ {width : ℕ} (we : width ≡ widthOf s (p .column)) {size : ℕ} (e : size ≡ bitmapBytes s) where
@@ -66,22 +66,22 @@ module _ {s : BatchCoalescer} {slots pool books records body : List ℕ} {rows :
     pub rows-copied : {y : Way} {slots″ : List ℕ} → y ≡ Way.Copied → slots″ ≡ rowsLaid (p .place + s .rows .0 * width) size r body width p slots → Steps (copiedBy w b p y) (record { state = s; number = 0 }) slots″ pool books
     rows-copied f z = steps-done (ap (copiedBy w b p) f ∙ rows-plain z)
 
-    module _ {slots′ : List ℕ} (q : slots′ ≡ lay (p .place + s .rows .0 * width) (appended (read (p .place + s .rows .0 * width) size slots) (p .at) (bitsOf r body (p .from)) (p .count)) slots) where
-      v : world s slots′ pool books ≡ bitsCopied w b (s .place) (span (p .column) (p .at) (p .from) (p .count))
-      v = bits-copied s slots pool books rows records body (p .column) (s .place) (p .at) (p .from) (p .count) (x .recorded) (begin-at part-placed we) e q
+    module _ {slots′ : List ℕ} (q : slots′ ≡ lay (p .place + s .rows .0 * width) (appended (read (p .place + s .rows .0 * width) size slots) (p .at) (bitsOf r body (p .from)) (p .count .0)) slots) where
+      v : world s slots′ pool books ≡ bitsCopied w b (s .place) (span (p .column) (p .at) (p .from) (p .count .0))
+      v = bits-copied s slots pool books rows records body (p .column) (s .place) (p .at) (p .from) (p .count .0) (x .recorded) (begin-at part-placed we) e q
 
       on : Along w (world s slots′ pool books)
       on =
           rw v
           (record {
-            goes = bits-goes b (p .column) (s .place) (p .at) (p .from) (p .count) (x .run);
-            beside = bits-beside w b (p .column) (s .place) (p .at) (p .from) (p .count);
+            goes = bits-goes b (p .column) (s .place) (p .at) (p .from) (p .count .0) (x .run);
+            beside = bits-beside w b (p .column) (s .place) (p .at) (p .from) (p .count .0);
           })
 
       bits-part : Part (world s slots′ pool books) b r p
       bits-part = part-on on x
 
-      copied-by : (y : Way) → copiedBy w b p y ≡ byWay (world s slots′ pool books) b (span (p .column) (p .at) (p .from) (p .count)) y
+      copied-by : (y : Way) → copiedBy w b p y ≡ byWay (world s slots′ pool books) b (span (p .column) (p .at) (p .from) (p .count .0)) y
       unfolding copiedBy
       copied-by y = rw v
 
@@ -115,5 +115,5 @@ module _ {s : BatchCoalescer} {slots pool books records body : List ℕ} {rows :
           pub rows-ideal : source .ideal .0 ≡ ideal (world s slots′ pool books) b (p .column)
           rows-ideal = d .ideal-is (views-so not-copied′) ∙ sym (same-ideal w (world s slots′ pool books) b (on .beside .set-up) (p .column))
 
-          pub rows-compacted : {t : Step} {slots″ pool″ books″ : List ℕ} → Steps (partCompacted (world s slots′ pool books) b (span (p .column) (p .at) (p .from) (p .count))) t slots″ pool″ books″ → Steps (copiedBy w b p (source .way)) t slots″ pool″ books″
+          pub rows-compacted : {t : Step} {slots″ pool″ books″ : List ℕ} → Steps (partCompacted (world s slots′ pool books) b (span (p .column) (p .at) (p .from) (p .count .0))) t slots″ pool″ books″ → Steps (copiedBy w b p (source .way)) t slots″ pool″ books″
           rows-compacted a = rw (copied-by (source .way), f) a

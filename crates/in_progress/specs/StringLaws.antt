@@ -41,9 +41,9 @@ module _ (w : World) (b : Batch) (p : Rows) where
   made f g list filled start to number =
       record {
         state = w .state;
-        slots = viewsPut (λ i. repointed list (filled + longTo f i) (f i)) (w .slots) to (p .count);
-        pool = bytesCarried f g (w .pool) (start + filled) (p .count);
-        books = withLength (w .books) number (filled + longTo f (p .count));
+        slots = viewsPut (λ i. repointed list (filled + longTo f i) (f i)) (w .slots) to (p .count .0);
+        pool = bytesCarried f g (w .pool) (start + filled) (p .count .0);
+        books = withLength (w .books) number (filled + longTo f (p .count .0));
       }
 
   made-same : {f f′ : ℕ → View} {g g′ : View → ℕ} {list list′ filled filled′ start start′ to to′ number number′ : ℕ} → f ≡ f′ → g ≡ g′ → list ≡ list′ → filled ≡ filled′ → start ≡ start′ → to ≡ to′ → number ≡ number′ → made f g list filled start to number ≡ made f′ g′ list′ filled′ start′ to′ number′
@@ -52,7 +52,7 @@ module _ (w : World) (b : Batch) (p : Rows) where
   abbrev f : ℕ → View
   f = viewsFrom w b (p .column) (p .from)
 
-  made-compacting : startsFit f (openFilled w (p .column)) (p .count) ≡ true → compacting w b p ≡ ok (made f (sourcePlace w b (p .column)) (listLength w (w .state .place) (p .column)) (openFilled w (p .column)) (entryOf (w .books) (openNumber w (p .column)) .start) (cellPlace (w .state) (w .state .place) (p .column) (p .at)) (openNumber w (p .column)))
+  made-compacting : startsFit f (openFilled w (p .column)) (p .count .0) ≡ true → compacting w b p ≡ ok (made f (sourcePlace w b (p .column)) (listLength w (w .state .place) (p .column)) (openFilled w (p .column)) (entryOf (w .books) (openNumber w (p .column)) .start) (cellPlace (w .state) (w .state .place) (p .column) (p .at)) (openNumber w (p .column)))
   unfolding compacting viewsCompacted made longBefore
   made-compacting e = rw e
 
@@ -87,23 +87,23 @@ module _ {w : World} {b : Batch} {r : ColumnRecord} {p : Rows} (x : RoomInOpen w
   row-at : (i : ℕ) → viewsAt (b .body) (r .values + p .from * 16) i ≡ rowView w b c (p .from + i)
   row-at i = sym (ap (λ (g : ℕ → View). g i) views-at)
 
-  spanned : Spanned (b .body) (r .values + p .from * 16) (length (w .slots)) (p .place + p .at * 16) (p .count)
+  spanned : Spanned (b .body) (r .values + p .from * 16) (length (w .slots)) (p .place + p .at * 16) (p .count .0)
   spanned =
       record {
         few = omega (arith, x .part .part .room, run-bounds (x .part .part .run) .rows);
         read =
-            let l = values-room (x .part .part .reads) c (p .from) (p .count) (x .part .part .column) (x .part .part .there) in
+            let l = values-room (x .part .part .reads) c (p .from) (p .count .0) (x .part .part .column) (x .part .part .there) in
             rw (wide, value-at) at l;
         put =
-            let l = cells-room (x .part .part .run) c (x .part .part .column) (p .at) (p .count) (x .part .part .room) in
+            let l = cells-room (x .part .part .run) c (x .part .part .column) (p .at) (p .count .0) (x .part .part .room) in
             rw (wide, cell-at) at l;
       }
 
-  long-at : longTo (viewsAt (b .body) (r .values + p .from * 16)) (p .count) ≡ longOf w b p
+  long-at : longTo (viewsAt (b .body) (r .values + p .from * 16)) (p .count .0) ≡ longOf w b p
   unfolding longOf longBefore
-  long-at = sym (ap (λ (g : ℕ → View). longTo g (p .count)) views-at)
+  long-at = sym (ap (λ (g : ℕ → View). longTo g (p .count .0)) views-at)
 
-  room-at : entryOf (w .books) (openNumber w c) .start + openFilled w c + longTo (viewsAt (b .body) (r .values + p .from * 16)) (p .count) ≤ length (w .pool)
+  room-at : entryOf (w .books) (openNumber w c) .start + openFilled w c + longTo (viewsAt (b .body) (r .values + p .from * 16)) (p .count .0) ≤ length (w .pool)
   room-at =
       omega (
         arith,
@@ -113,7 +113,7 @@ module _ {w : World} {b : Batch} {r : ColumnRecord} {p : Rows} (x : RoomInOpen w
         x .part .part .run .fit .pool-is,
       )
 
-  carriable : (index : ℕ) {start filled to : ℕ} → start ≡ entryOf (w .books) (openNumber w c) .start → filled ≡ openFilled w c → Carriable (w .books) (b .body) (w .pool) (record { from = r .values + p .from * 16; list = r .list; count = r .count; to = to; index = index; start = start }) (p .count) filled
+  carriable : (index : ℕ) {start filled to : ℕ} → start ≡ entryOf (w .books) (openNumber w c) .start → filled ≡ openFilled w c → Carriable (w .books) (b .body) (w .pool) (record { from = r .values + p .from * 16; list = r .list; count = r .count; to = to; index = index; start = start }) (p .count .0) filled
   carriable index {start} {filled} {to} se fe =
       record {
         entered =
@@ -131,21 +131,21 @@ module _ {w : World} {b : Batch} {r : ColumnRecord} {p : Rows} (x : RoomInOpen w
         small = pool-small (x .part .part .run);
       }
     where
-      below : (i : ℕ) → i < p .count → p .from + i < b .rows
+      below : (i : ℕ) → i < p .count .0 → p .from + i < b .rows
       below i h = omega (arith, x .part .part .there)
 
   -- every copied view begins within a word
-  starts : startsFit (viewsFrom w b c (p .from)) (openFilled w c) (p .count) ≡ true
+  starts : startsFit (viewsFrom w b c (p .from)) (openFilled w c) (p .count .0) ≡ true
   unfolding startsFit
-  starts = every-is _ (p .count) (λ i h. by-cond (λ (z : Bool). z ≡ true) (isInline (viewsFrom w b c (p .from) i)) (λ e. refl) (λ e. le-leb _ 4294967295 (small i h)))
+  starts = every-is _ (p .count .0) (λ i h. by-cond (λ (z : Bool). z ≡ true) (isInline (viewsFrom w b c (p .from) i)) (λ e. refl) (λ e. le-leb _ 4294967295 (small i h)))
     where
-      small : (i : ℕ) → i < p .count → openFilled w c + longTo (viewsFrom w b c (p .from)) i ≤ 4294967295
+      small : (i : ℕ) → i < p .count .0 → openFilled w c + longTo (viewsFrom w b c (p .from)) i ≤ 4294967295
       small i h =
           omega (
             arith,
             room-at,
-            ap (λ (g : ℕ → View). longTo g (p .count)) views-at,
-            long-mono (viewsFrom w b c (p .from)) i (p .count) (omega arith),
+            ap (λ (g : ℕ → View). longTo g (p .count .0)) views-at,
+            long-mono (viewsFrom w b c (p .from)) i (p .count .0) (omega arith),
             pool-small (x .part .part .run),
           )
 
@@ -164,7 +164,7 @@ module _ (s : BatchCoalescer) (slots pool books records body : List ℕ) (rows :
   pub strings-entry : 24 + 20 * k .0 ≤ length books
   strings-entry = rw number-at at (open-entry (p .column) (x .part .part .run) (x .part .part .column) (x .part .views) (x .is-open))
 
-  pub strings-spanned : Spanned body (r .values + p .from * 16) (length slots) (p .place + p .at * 16) (p .count)
+  pub strings-spanned : Spanned body (r .values + p .from * 16) (length slots) (p .place + p .at * 16) (p .count .0)
   strings-spanned = spanned x
 
   module _ {block : Entry} (e : block ≡ entryOf books (k .0)) where
@@ -175,12 +175,12 @@ module _ (s : BatchCoalescer) (slots pool books records body : List ℕ) (rows :
     unfolding openFilled
     filled-at = ap (λ (z : Entry). z .length .0) e ∙ ap (λ (n : ℕ). entryOf books n .length .0) (sym number-at)
 
-    pub strings-carriable : {index : ℕ} → Carriable books body pool (record { from = r .values + p .from * 16; list = r .list; count = r .count; to = p .place + p .at * 16; index = index; start = block .start }) (p .count) (block .length .0)
+    pub strings-carriable : {index : ℕ} → Carriable books body pool (record { from = r .values + p .from * 16; list = r .list; count = r .count; to = p .place + p .at * 16; index = index; start = block .start }) (p .count .0) (block .length .0)
     strings-carriable {index} = carriable x index start-at filled-at
 
-    pub strings-done : {index filled : ℕ} {slots′ pool′ books′ : List ℕ} → index ≡ listLength (world s [] [] books) (s .place) (p .column) → filled ≡ block .length .0 + longTo (viewsAt body (r .values + p .from * 16)) (p .count)
-        → slots′ ≡ viewsPut (λ i. repointed index (block .length .0 + longTo (viewsAt body (r .values + p .from * 16)) i) (viewsAt body (r .values + p .from * 16) i)) slots (p .place + p .at * 16) (p .count)
-        → pool′ ≡ bytesCarried (viewsAt body (r .values + p .from * 16)) (sourceIn books body (r .list)) pool (block .start + block .length .0) (p .count)
+    pub strings-done : {index filled : ℕ} {slots′ pool′ books′ : List ℕ} → index ≡ listLength (world s [] [] books) (s .place) (p .column) → filled ≡ block .length .0 + longTo (viewsAt body (r .values + p .from * 16)) (p .count .0)
+        → slots′ ≡ viewsPut (λ i. repointed index (block .length .0 + longTo (viewsAt body (r .values + p .from * 16)) i) (viewsAt body (r .values + p .from * 16) i)) slots (p .place + p .at * 16) (p .count .0)
+        → pool′ ≡ bytesCarried (viewsAt body (r .values + p .from * 16)) (sourceIn books body (r .list)) pool (block .start + block .length .0) (p .count .0)
         → books′ ≡ withLength books (k .0) filled
         → compacting w b p ≡ ok (world s slots′ pool′ books′)
     unfolding made

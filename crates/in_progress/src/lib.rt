@@ -17,6 +17,7 @@ use byte_view::Copying;
 use byte_view::Source;
 use counts::BufferNumber;
 use counts::ByteSum;
+use counts::RowCount;
 use primitive::Rows;
 use rules::ColumnRecord;
 use rules::Step;
@@ -32,16 +33,16 @@ fn copy_strings(
     books: &mut [u8],
     records: &[u8],
     body: &[u8],
-    rows: u32,
+    rows: RowCount,
     r: ColumnRecord,
     p: Rows,
     k: BufferNumber,
 )
-    requires { ⌜ (RoomInOpen (world s (now slots) (now pool) (now books)) (batch rows (now records) (now body)) r p) × (columnOf s (p .column) .block ≡ OpenBlock.Number k) ⌝ }
-    ensures { λ _. ⌜ compacting (world s (now (slots .entry)) (now (pool .entry)) (now (books .entry))) (batch rows (now (records .entry)) (now (body .entry))) p
+    requires { ⌜ (RoomInOpen (world s (now slots) (now pool) (now books)) (batch (rows .0) (now records) (now body)) r p) × (columnOf s (p .column) .block ≡ OpenBlock.Number k) ⌝ }
+    ensures { λ _. ⌜ compacting (world s (now (slots .entry)) (now (pool .entry)) (now (books .entry))) (batch (rows .0) (now (records .entry)) (now (body .entry))) p
         ≡ ok (world s (now (slots .exit)) (now (pool .exit)) (now (books .exit))) ⌝ }
 {
-    let block = books::entry_at(books, k.0 as usize);
+    let block = books::entry_at(books, k);
     let index = slot_counts::list_length(s, books, s.place, p.column);
     let j = Copying {
         from: (r.values as usize) + (p.from as usize) * 16,
@@ -58,9 +59,9 @@ fn copy_strings(
         body,
         j,
         p.count,
-        block.length.0,
+        block.length,
     );
-    open_blocks::put_length(books, k.0, filled);
+    open_blocks::put_length(books, k, filled);
 }
 
 // The same into the open block, whichever it is.
@@ -71,12 +72,12 @@ fn copy_into_open(
     books: &mut [u8],
     records: &[u8],
     body: &[u8],
-    rows: u32,
+    rows: RowCount,
     r: ColumnRecord,
     p: Rows,
 )
-    requires { ⌜ RoomInOpen (world s (now slots) (now pool) (now books)) (batch rows (now records) (now body)) r p ⌝ }
-    ensures { λ _. ⌜ compacting (world s (now (slots .entry)) (now (pool .entry)) (now (books .entry))) (batch rows (now (records .entry)) (now (body .entry))) p
+    requires { ⌜ RoomInOpen (world s (now slots) (now pool) (now books)) (batch (rows .0) (now records) (now body)) r p ⌝ }
+    ensures { λ _. ⌜ compacting (world s (now (slots .entry)) (now (pool .entry)) (now (books .entry))) (batch (rows .0) (now (records .entry)) (now (body .entry))) p
         ≡ ok (world s (now (slots .exit)) (now (pool .exit)) (now (books .exit))) ⌝ }
 {
     let column = layout::column_of(s, p.column);
@@ -97,14 +98,14 @@ fn open_and_copy(
     books: &mut [u8],
     records: &[u8],
     body: &[u8],
-    rows: u32,
+    rows: RowCount,
     r: ColumnRecord,
     p: Rows,
     min: ByteSum,
 ) -> Step
-    requires { ⌜ (ViewPart (world s (now slots) (now pool) (now books)) (batch rows (now records) (now body)) r p)
-        × (longOf (world s (now slots) (now pool) (now books)) (batch rows (now records) (now body)) p ≤ min .0) ⌝ }
-    ensures { λ q. ⌜ Steps (openedFor (world s (now (slots .entry)) (now (pool .entry)) (now (books .entry))) (batch rows (now (records .entry)) (now (body .entry))) (min .0) p)
+    requires { ⌜ (ViewPart (world s (now slots) (now pool) (now books)) (batch (rows .0) (now records) (now body)) r p)
+        × (longOf (world s (now slots) (now pool) (now books)) (batch (rows .0) (now records) (now body)) p ≤ min .0) ⌝ }
+    ensures { λ q. ⌜ Steps (openedFor (world s (now (slots .entry)) (now (pool .entry)) (now (books .entry))) (batch (rows .0) (now (records .entry)) (now (body .entry))) (min .0) p)
         q (now (slots .exit)) (now (pool .exit)) (now (books .exit)) ⌝ }
 {
     let next = open_blocks::next_buffer(s, books, p.column, min);
@@ -128,14 +129,14 @@ fn move_and_copy(
     books: &mut [u8],
     records: &[u8],
     body: &[u8],
-    rows: u32,
+    rows: RowCount,
     r: ColumnRecord,
     p: Rows,
     min: ByteSum,
 ) -> Step
-    requires { ⌜ (ViewPart (world s (now slots) (now pool) (now books)) (batch rows (now records) (now body)) r p)
-        × (longOf (world s (now slots) (now pool) (now books)) (batch rows (now records) (now body)) p ≤ min .0) ⌝ }
-    ensures { λ q. ⌜ Steps (openedFor (closed (world s (now (slots .entry)) (now (pool .entry)) (now (books .entry))) (p .column)) (batch rows (now (records .entry)) (now (body .entry))) (min .0) p)
+    requires { ⌜ (ViewPart (world s (now slots) (now pool) (now books)) (batch (rows .0) (now records) (now body)) r p)
+        × (longOf (world s (now slots) (now pool) (now books)) (batch (rows .0) (now records) (now body)) p ≤ min .0) ⌝ }
+    ensures { λ q. ⌜ Steps (openedFor (closed (world s (now (slots .entry)) (now (pool .entry)) (now (books .entry))) (p .column)) (batch (rows .0) (now (records .entry)) (now (body .entry))) (min .0) p)
         q (now (slots .exit)) (now (pool .exit)) (now (books .exit)) ⌝ }
 {
     let t = open_blocks::finish_current(s, slots, books, p.column);
@@ -143,8 +144,8 @@ fn move_and_copy(
 }
 
 // The first k rows of a part, and those behind them.
-fn first_rows(p: Rows, k: u32) -> Rows
-    ensures { λ q. ⌜ q ≡ firstRows p k ⌝ }
+fn first_rows(p: Rows, k: RowCount) -> Rows
+    ensures { λ q. ⌜ q ≡ firstRows p (k .0) ⌝ }
 {
     Rows {
         column: p.column,
@@ -155,16 +156,16 @@ fn first_rows(p: Rows, k: u32) -> Rows
     }
 }
 
-fn rows_behind(p: Rows, k: u32) -> Rows
-    requires { ⌜ (k ≤ p .count) × (p .at + p .count ≤ 65536) × (p .from + p .count ≤ 65536) ⌝ }
-    ensures { λ q. ⌜ q ≡ rowsBehind p k ⌝ }
+fn rows_behind(p: Rows, k: RowCount) -> Rows
+    requires { ⌜ (k .0 ≤ p .count .0) × (p .at + p .count .0 ≤ 65536) × (p .from + p .count .0 ≤ 65536) ⌝ }
+    ensures { λ q. ⌜ q ≡ rowsBehind p (k .0) ⌝ }
 {
     Rows {
         column: p.column,
         place: p.place,
-        at: p.at + k,
-        from: p.from + k,
-        count: p.count - k,
+        at: p.at + k.0,
+        from: p.from + k.0,
+        count: RowCount(p.count.0 - k.0),
     }
 }
 
@@ -176,14 +177,14 @@ fn walk_on(
     books: &mut [u8],
     records: &[u8],
     body: &[u8],
-    rows: u32,
+    rows: RowCount,
     r: ColumnRecord,
     p: Rows,
     ideal: ByteSum,
     rest: ByteSum,
 ) -> Step
-    requires { ⌜ Walks (world s (now slots) (now pool) (now books)) (batch rows (now records) (now body)) r p (ideal .0) (rest .0) ⌝ }
-    ensures { λ q. ⌜ Steps (walkedOn (world s (now (slots .entry)) (now (pool .entry)) (now (books .entry))) (batch rows (now (records .entry)) (now (body .entry))) (ideal .0) (rest .0) p)
+    requires { ⌜ Walks (world s (now slots) (now pool) (now books)) (batch (rows .0) (now records) (now body)) r p (ideal .0) (rest .0) ⌝ }
+    ensures { λ q. ⌜ Steps (walkedOn (world s (now (slots .entry)) (now (pool .entry)) (now (books .entry))) (batch (rows .0) (now (records .entry)) (now (body .entry))) (ideal .0) (rest .0) p)
         q (now (slots .exit)) (now (pool .exit)) (now (books .exit)) ⌝ }
 {
     let from = (r.values as usize) + (p.from as usize) * 16;
@@ -203,14 +204,14 @@ fn append_views_and_copy_strings(
     books: &mut [u8],
     records: &[u8],
     body: &[u8],
-    rows: u32,
+    rows: RowCount,
     r: ColumnRecord,
     p: Rows,
     ideal: ByteSum,
 ) -> Step
-    requires { ⌜ (ViewPart (world s (now slots) (now pool) (now books)) (batch rows (now records) (now body)) r p)
-        × (ideal .0 ≡ Rattle.rules.specs.Batch.ideal (world s (now slots) (now pool) (now books)) (batch rows (now records) (now body)) (p .column)) ⌝ }
-    ensures { λ q. ⌜ Steps (partCompacted (world s (now (slots .entry)) (now (pool .entry)) (now (books .entry))) (batch rows (now (records .entry)) (now (body .entry))) (span (p .column) (p .at) (p .from) (p .count)))
+    requires { ⌜ (ViewPart (world s (now slots) (now pool) (now books)) (batch (rows .0) (now records) (now body)) r p)
+        × (ideal .0 ≡ Rattle.rules.specs.Batch.ideal (world s (now slots) (now pool) (now books)) (batch (rows .0) (now records) (now body)) (p .column)) ⌝ }
+    ensures { λ q. ⌜ Steps (partCompacted (world s (now (slots .entry)) (now (pool .entry)) (now (books .entry))) (batch (rows .0) (now (records .entry)) (now (body .entry))) (span (p .column) (p .at) (p .from) (p .count .0)))
         q (now (slots .exit)) (now (pool .exit)) (now (books .exit)) ⌝ }
 {
     let column = layout::column_of(s, p.column);
@@ -253,14 +254,14 @@ fn attach_list(
     books: &mut [u8],
     records: &[u8],
     body: &[u8],
-    rows: u32,
+    rows: RowCount,
     r: ColumnRecord,
     p: Rows,
     k: u32,
 )
-    requires { ⌜ (AnyPart s (now slots) (now books) (batch rows (now records) (now body)) r p) × (k + r .count ≤ s .lists)
+    requires { ⌜ (AnyPart s (now slots) (now books) (batch (rows .0) (now records) (now body)) r p) × (k + r .count ≤ s .lists)
         × (k ≡ listLength (world s [] [] (now books)) (s .place) (p .column)) ⌝ }
-    ensures { λ _. ⌜ RaisesPart s (now (slots .entry)) (now (books .entry)) (batch rows (now (records .entry)) (now (body .entry))) k p (now (slots .exit)) (now (books .exit)) ⌝ }
+    ensures { λ _. ⌜ RaisesPart s (now (slots .entry)) (now (books .entry)) (batch (rows .0) (now (records .entry)) (now (body .entry))) k p (now (slots .exit)) (now (books .exit)) ⌝ }
 {
     lists::append_list(s, slots, books, records, body, rows, r, p.column);
     let to = p.place + (p.at as usize) * 16;
@@ -275,12 +276,12 @@ fn attach(
     books: &mut [u8],
     records: &[u8],
     body: &[u8],
-    rows: u32,
+    rows: RowCount,
     r: ColumnRecord,
     p: Rows,
 ) -> Step
-    requires { ⌜ AnyPart s (now slots) (now books) (batch rows (now records) (now body)) r p ⌝ }
-    ensures { λ q. ⌜ AttachesPart s (now (slots .entry)) (now (books .entry)) (batch rows (now (records .entry)) (now (body .entry))) p q (now (slots .exit)) (now (books .exit)) ⌝ }
+    requires { ⌜ AnyPart s (now slots) (now books) (batch (rows .0) (now records) (now body)) r p ⌝ }
+    ensures { λ q. ⌜ AttachesPart s (now (slots .entry)) (now (books .entry)) (batch (rows .0) (now (records .entry)) (now (body .entry))) p q (now (slots .exit)) (now (books .exit)) ⌝ }
 {
     let n = columns::list_closed(s, books, p.column);
     if (n as u64) + (r.count as u64) <= (s.lists as u64) {
@@ -306,14 +307,14 @@ pub fn copy_rows(
     books: &mut [u8],
     records: &[u8],
     body: &[u8],
-    rows: u32,
+    rows: RowCount,
     r: ColumnRecord,
     source: Source,
     p: Rows,
 ) -> Step
-    requires { ⌜ (Part (world s (now slots) (now pool) (now books)) (batch rows (now records) (now body)) r p)
-        × (Decided (world s (now slots) (now pool) (now books)) (batch rows (now records) (now body)) (p .column) source) ⌝ }
-    ensures { λ q. ⌜ Steps (copiedBy (world s (now (slots .entry)) (now (pool .entry)) (now (books .entry))) (batch rows (now (records .entry)) (now (body .entry))) p (source .way))
+    requires { ⌜ (Part (world s (now slots) (now pool) (now books)) (batch (rows .0) (now records) (now body)) r p)
+        × (Decided (world s (now slots) (now pool) (now books)) (batch (rows .0) (now records) (now body)) (p .column) source) ⌝ }
+    ensures { λ q. ⌜ Steps (copiedBy (world s (now (slots .entry)) (now (pool .entry)) (now (books .entry))) (batch (rows .0) (now (records .entry)) (now (body .entry))) p (source .way))
         q (now (slots .exit)) (now (pool .exit)) (now (books .exit)) ⌝ }
 {
     let width = layout::width_of(s, p.column);

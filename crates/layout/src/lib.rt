@@ -6,6 +6,7 @@ ghost use Rattle.state.specs.World.{columnOf};
 ghost use Rattle.kinds.specs.Kind.{widthAt};
 ghost use Rattle.state.specs.Layout.{bytesIn, widthOf, isViews, valuesBytes, bitmapBytes, listBytes, columnsBytes, slotBytes, valuesPlace, bitmapPlace, listPlace, cellPlace, slotsLength, booksLength, nextSlot, slotBefore, queuedSlot};
 ghost use Rattle.layout.specs.Few.{Few, sizeOfKind};
+use counts::RowCount;
 use kinds::Width;
 use state::BatchCoalescer;
 use state::Column;
@@ -72,12 +73,12 @@ pub fn list_bytes(s: BatchCoalescer, c: u32) -> usize
 }
 
 // The bytes of a column of a kind in a slot of so many rows, with room for a list of so many numbers where it is one of views.
-pub fn column_size(kind: u32, rows: u32, lists: u32) -> usize
-    requires { ⌜ (rows ≤ 65536) × (lists ≤ 1024) ⌝ }
-    ensures { λ r. ⌜ (r ≡ sizeOfKind kind rows lists) × (r ≤ 2109440) ⌝ }
+pub fn column_size(kind: u32, rows: RowCount, lists: u32) -> usize
+    requires { ⌜ (rows .0 ≤ 65536) × (lists ≤ 1024) ⌝ }
+    ensures { λ r. ⌜ (r ≡ sizeOfKind kind (rows .0) lists) × (r ≤ 2109440) ⌝ }
 {
-    let bitmap = ((rows as usize) + 7) / 8;
-    let values = (rows as usize) * width_in(kind);
+    let bitmap = ((rows.0 as usize) + 7) / 8;
+    let values = (rows.0 as usize) * width_in(kind);
     if kinds::is_view(kind) {
         values + (bitmap + 4 * (lists as usize))
     } else {
@@ -95,7 +96,7 @@ pub fn columns_bytes(s: BatchCoalescer, c: u32) -> usize
     while i < c {
         let at = i as usize;
         let column = s.column[at];
-        sum += column_size(column.kind, s.rows.0, s.lists);
+        sum += column_size(column.kind, s.rows, s.lists);
         i += 1;
     }
     sum

@@ -4,6 +4,7 @@ ghost use Prim.Native.Nat.{_+_, _*_, _≤_};
 ghost use lib.ListN.{length};
 ghost use Rattle.books.specs.Entry.{usedOf};
 ghost use Rattle.listings.specs.Listing.{oneMore, listedOne, unlistedOne, released, overList, Listed};
+use counts::BufferNumber;
 
 // One more listing, as far as a word goes.
 fn one_more(k: u32) -> u32
@@ -13,21 +14,21 @@ fn one_more(k: u32) -> u32
 }
 
 // Number i is listed once more.
-pub fn list_one(books: &mut [u8], i: usize)
-    requires { ⌜ 24 + 20 * i ≤ length (now books) ⌝ }
-    ensures { λ _. ⌜ now (books .exit) ≡ listedOne (now (books .entry)) i ⌝ }
+pub fn list_one(books: &mut [u8], i: BufferNumber)
+    requires { ⌜ 24 + 20 * i .0 ≤ length (now books) ⌝ }
+    ensures { λ _. ⌜ now (books .exit) ≡ listedOne (now (books .entry)) (i .0) ⌝ }
 {
-    let at = 4 + 20 * i + 16;
+    let at = 4 + 20 * (i.0 as usize) + 16;
     let k = words::get32(books, at);
     words::put32(books, at, one_more(k));
 }
 
 // Number i is listed once less, and freed where that was the last of it.
-pub fn unlist_one(books: &mut [u8], i: usize)
-    requires { ⌜ (24 + 20 * i ≤ length (now books)) × (4 + 20 * usedOf (now books) ≤ length (now books)) ⌝ }
-    ensures { λ _. ⌜ now (books .exit) ≡ unlistedOne (now (books .entry)) i ⌝ }
+pub fn unlist_one(books: &mut [u8], i: BufferNumber)
+    requires { ⌜ (24 + 20 * i .0 ≤ length (now books)) × (4 + 20 * usedOf (now books) ≤ length (now books)) ⌝ }
+    ensures { λ _. ⌜ now (books .exit) ≡ unlistedOne (now (books .entry)) (i .0) ⌝ }
 {
-    let at = 4 + 20 * i + 16;
+    let at = 4 + 20 * (i.0 as usize) + 16;
     let k = words::get32(books, at);
     if 0 < k {
         words::put32(books, at, k - 1);
@@ -38,11 +39,11 @@ pub fn unlist_one(books: &mut [u8], i: usize)
 }
 
 // The caller holds number i no longer, and it is freed where that was the last of it.
-pub fn release(books: &mut [u8], i: usize)
-    requires { ⌜ (24 + 20 * i ≤ length (now books)) × (4 + 20 * usedOf (now books) ≤ length (now books)) ⌝ }
-    ensures { λ _. ⌜ now (books .exit) ≡ released (now (books .entry)) i ⌝ }
+pub fn release(books: &mut [u8], i: BufferNumber)
+    requires { ⌜ (24 + 20 * i .0 ≤ length (now books)) × (4 + 20 * usedOf (now books) ≤ length (now books)) ⌝ }
+    ensures { λ _. ⌜ now (books .exit) ≡ released (now (books .entry)) (i .0) ⌝ }
 {
-    words::put32(books, 4 + 20 * i + 12, 0);
+    words::put32(books, 4 + 20 * (i.0 as usize) + 12, 0);
     listings::free_unused(books, i);
 }
 
@@ -54,7 +55,7 @@ pub fn list_all(books: &mut [u8], n: u32, list: &[u8], count: usize)
     let mut i: usize = 0;
     while i < count {
         let k = words::get32(list, 4 * i);
-        list_one(books, k as usize);
+        list_one(books, BufferNumber(k));
         i += 1;
     }
 }
@@ -67,7 +68,7 @@ pub fn unlist_all(books: &mut [u8], n: u32, list: &[u8], count: usize)
     let mut i: usize = 0;
     while i < count {
         let k = words::get32(list, 4 * i);
-        unlist_one(books, k as usize);
+        unlist_one(books, BufferNumber(k));
         i += 1;
     }
 }

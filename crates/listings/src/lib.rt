@@ -6,6 +6,7 @@ ghost use lib.ListN.{length};
 ghost use Rattle.books.specs.Entry.{usedOf};
 ghost use Rattle.listings.specs.Listing.{settled, freed, taken, freeUnused};
 use books::Entry;
+use counts::BufferNumber;
 use counts::ByteCount;
 
 // One more than the highest number below `used` that is not free, and 0 where all are.
@@ -16,7 +17,7 @@ fn top_used(books: &[u8], used: u32) -> u32
     let mut top = used;
     while 0 < top {
         let below = top - 1;
-        if books::is_free(books::entry_at(books, below as usize)) {
+        if books::is_free(books::entry_at(books, BufferNumber(below))) {
             top = below;
         } else {
             return top;
@@ -26,9 +27,9 @@ fn top_used(books: &[u8], used: u32) -> u32
 }
 
 // The entry of number i becomes zero, and the numbers in use end where the last one is.
-fn free_entry(books: &mut [u8], i: usize)
-    requires { ⌜ (24 + 20 * i ≤ length (now books)) × (4 + 20 * usedOf (now books) ≤ length (now books)) ⌝ }
-    ensures { λ _. ⌜ now (books .exit) ≡ freed (now (books .entry)) i ⌝ }
+fn free_entry(books: &mut [u8], i: BufferNumber)
+    requires { ⌜ (24 + 20 * i .0 ≤ length (now books)) × (4 + 20 * usedOf (now books) ≤ length (now books)) ⌝ }
+    ensures { λ _. ⌜ now (books .exit) ≡ freed (now (books .entry)) (i .0) ⌝ }
 {
     let none = Entry {
         start: 0,
@@ -44,22 +45,22 @@ fn free_entry(books: &mut [u8], i: usize)
 }
 
 // The entry e for the free number i.
-pub fn take_entry(books: &mut [u8], i: u32, e: Entry)
-    requires { ⌜ (24 + 20 * i ≤ length (now books)) × (i < 65536) ⌝ }
-    ensures { λ _. ⌜ now (books .exit) ≡ taken (now (books .entry)) i e ⌝ }
+pub fn take_entry(books: &mut [u8], i: BufferNumber, e: Entry)
+    requires { ⌜ (24 + 20 * i .0 ≤ length (now books)) × (i .0 < 65536) ⌝ }
+    ensures { λ _. ⌜ now (books .exit) ≡ taken (now (books .entry)) (i .0) e ⌝ }
 {
     let used = words::get32(books, 0);
-    books::put_entry(books, i as usize, e);
-    if used <= i {
-        words::put32(books, 0, i + 1);
+    books::put_entry(books, i, e);
+    if used <= i.0 {
+        words::put32(books, 0, i.0 + 1);
         return;
     }
 }
 
 // Frees number i where nobody holds it and nothing lists it.
-pub fn free_unused(books: &mut [u8], i: usize)
-    requires { ⌜ (24 + 20 * i ≤ length (now books)) × (4 + 20 * usedOf (now books) ≤ length (now books)) ⌝ }
-    ensures { λ _. ⌜ now (books .exit) ≡ freeUnused (now (books .entry)) i ⌝ }
+pub fn free_unused(books: &mut [u8], i: BufferNumber)
+    requires { ⌜ (24 + 20 * i .0 ≤ length (now books)) × (4 + 20 * usedOf (now books) ≤ length (now books)) ⌝ }
+    ensures { λ _. ⌜ now (books .exit) ≡ freeUnused (now (books .entry)) (i .0) ⌝ }
 {
     if books::is_free(books::entry_at(books, i)) {
         free_entry(books, i);

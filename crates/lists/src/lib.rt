@@ -13,6 +13,7 @@ ghost use Rattle.layout.specs.Few.{Few};
 ghost use Rattle.rules.specs.Batch.{batch, recordOf};
 ghost use Rattle.lists.specs.List.{Listable, Attaches};
 use counts::BufferNumber;
+use counts::RowCount;
 use rules::ColumnRecord;
 use state::BatchCoalescer;
 
@@ -42,12 +43,12 @@ pub fn append_list(
     books: &mut [u8],
     records: &[u8],
     body: &[u8],
-    rows: u32,
+    rows: RowCount,
     r: ColumnRecord,
     c: u32,
 )
-    requires { ⌜ (Listable s (now slots) (now books) (batch rows (now records) (now body)) c) × (r ≡ recordOf (batch rows (now records) (now body)) c) ⌝ }
-    ensures { λ _. ⌜ Attaches s (now (slots .entry)) (now (books .entry)) (batch rows (now (records .entry)) (now (body .entry))) c (now (slots .exit)) (now (books .exit)) ⌝ }
+    requires { ⌜ (Listable s (now slots) (now books) (batch (rows .0) (now records) (now body)) c) × (r ≡ recordOf (batch (rows .0) (now records) (now body)) c) ⌝ }
+    ensures { λ _. ⌜ Attaches s (now (slots .entry)) (now (books .entry)) (batch (rows .0) (now (records .entry)) (now (body .entry))) c (now (slots .exit)) (now (books .exit)) ⌝ }
 {
     let n = slot_counts::list_length(s, books, s.place, c);
     let place = layout::list_place(s, s.place, c);

@@ -14,9 +14,9 @@ use room::Chosen;
 use room::Room;
 
 // The lowest free number and the lowest start for a capacity; refusal 11 without a number, 12 without a gap.
-pub fn choose(books: &[u8], n: u32, pool: u32, capacity: ByteSum) -> Chosen
+pub fn choose(books: &[u8], n: u32, pool: ByteCount, capacity: ByteSum) -> Chosen
     requires { ⌜ (usedOf (now books) ≤ n) × (4 + 20 * n ≤ length (now books)) ⌝ }
-    ensures { λ r. ⌜ r ≡ chosen (now (books .entry)) n pool (capacity .0) ⌝ }
+    ensures { λ r. ⌜ r ≡ chosen (now (books .entry)) n (pool .0) (capacity .0) ⌝ }
 {
     let found = gaps::lowest_free(books, n);
     let Found::At(number) = found else {
@@ -40,19 +40,19 @@ fn is_zero(e: Entry) -> bool
 fn open_as(
     books: &mut [u8],
     n: u32,
-    pool: u32,
+    pool: ByteCount,
     capacity: ByteSum,
     hold: u32,
     listings: u32,
 ) -> Chosen
     requires { ⌜ (usedOf (now books) ≤ n) × (4 + 20 * n ≤ length (now books)) × (n ≤ 65536) ⌝ }
-    ensures { λ r. ⌜ Opens (openedAs (now (books .entry)) n pool (capacity .0) hold listings) (now (books .exit)) r ⌝ }
+    ensures { λ r. ⌜ Opens (openedAs (now (books .entry)) n (pool .0) (capacity .0) hold listings) (now (books .exit)) r ⌝ }
 {
     let room = choose(books, n, pool, capacity);
     let Chosen::At(r) = room else {
         return room;
     };
-    let old = books::entry_at(books, r.number.0 as usize);
+    let old = books::entry_at(books, r.number);
     if is_zero(old) {
         let e = Entry {
             start: r.start,
@@ -61,7 +61,7 @@ fn open_as(
             hold,
             listings,
         };
-        listings::take_entry(books, r.number.0, e);
+        listings::take_entry(books, r.number, e);
         room
     } else {
         Chosen::Refused(14)
@@ -69,17 +69,17 @@ fn open_as(
 }
 
 // A block for copied bytes: nobody holds it, and it counts as listed.
-pub fn open_block(books: &mut [u8], n: u32, pool: u32, capacity: ByteSum) -> Chosen
+pub fn open_block(books: &mut [u8], n: u32, pool: ByteCount, capacity: ByteSum) -> Chosen
     requires { ⌜ (usedOf (now books) ≤ n) × (4 + 20 * n ≤ length (now books)) × (n ≤ 65536) ⌝ }
-    ensures { λ r. ⌜ Opens (opened (now (books .entry)) n pool (capacity .0)) (now (books .exit)) r ⌝ }
+    ensures { λ r. ⌜ Opens (opened (now (books .entry)) n (pool .0) (capacity .0)) (now (books .exit)) r ⌝ }
 {
     open_as(books, n, pool, capacity, 0, 1)
 }
 
 // A block opened on trial: it takes its number and its room, and bears the trial's mark.
-pub fn try_block(books: &mut [u8], n: u32, pool: u32, capacity: ByteSum) -> Chosen
+pub fn try_block(books: &mut [u8], n: u32, pool: ByteCount, capacity: ByteSum) -> Chosen
     requires { ⌜ (usedOf (now books) ≤ n) × (4 + 20 * n ≤ length (now books)) × (n ≤ 65536) ⌝ }
-    ensures { λ r. ⌜ Opens (tried (now (books .entry)) n pool (capacity .0)) (now (books .exit)) r ⌝ }
+    ensures { λ r. ⌜ Opens (tried (now (books .entry)) n (pool .0) (capacity .0)) (now (books .exit)) r ⌝ }
 {
     open_as(books, n, pool, capacity, 2, 0)
 }

@@ -7,6 +7,8 @@ ghost use lib.ListN.{length};
 ghost use Rattle.sound.specs.Change.{withLength};
 ghost use Rattle.state.specs.Layout.{isViews};
 ghost use Rattle.open_blocks.specs.Open.{Booked, FillingViews, ClosesBlock, OpensNext, OpensBlock};
+use counts::BufferNumber;
+use counts::ByteCount;
 use counts::ByteSum;
 use room::Chosen;
 use rules::Step;
@@ -42,7 +44,7 @@ fn open_next(s: BatchCoalescer, books: &mut [u8], c: u32, min: ByteSum) -> Step
     let column = layout::column_of(s, c);
     let source = column.source;
     let next = source.next_size(min);
-    let chosen = making_room::open_block(books, s.numbers, s.pool.0, next.size);
+    let chosen = making_room::open_block(books, s.numbers, s.pool, next.size);
     match chosen {
         Chosen::Refused(number) => Step { state: s, number },
         Chosen::At(r) => {
@@ -74,9 +76,9 @@ pub fn next_buffer(s: BatchCoalescer, books: &mut [u8], c: u32, min: ByteSum) ->
 }
 
 // The length of a buffer set.
-pub fn put_length(books: &mut [u8], i: u32, n: u32)
-    requires { ⌜ 24 + 20 * i ≤ length (now books) ⌝ }
-    ensures { λ _. ⌜ now (books .exit) ≡ withLength (now (books .entry)) i n ⌝ }
+pub fn put_length(books: &mut [u8], i: BufferNumber, n: ByteCount)
+    requires { ⌜ 24 + 20 * i .0 ≤ length (now books) ⌝ }
+    ensures { λ _. ⌜ now (books .exit) ≡ withLength (now (books .entry)) (i .0) (n .0) ⌝ }
 {
-    words::put32(books, 12 + 20 * (i as usize), n);
+    words::put32(books, 12 + 20 * (i.0 as usize), n.0);
 }

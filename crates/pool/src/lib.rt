@@ -32,7 +32,7 @@ fn register_at(books: &mut [u8], pool: &mut [u8], r: Room, bytes: &[u8], capacit
         hold: 1,
         listings: 0,
     };
-    listings::take_entry(books, r.number.0, e);
+    listings::take_entry(books, r.number, e);
     words::put_bytes(pool, r.start as usize, bytes);
 }
 
@@ -50,7 +50,7 @@ pub fn register(
     if (capacity.0 as usize) < bytes.len() {
         return Registered::Refused(13);
     }
-    let size = pool.len() as u32;
+    let size = ByteCount(pool.len() as u32);
     let chosen = making_room::choose(books, n, size, ByteSum(capacity.0 as u64));
     match chosen {
         Chosen::Refused(number) => Registered::Refused(number),
@@ -68,14 +68,13 @@ pub fn let_go(books: &mut [u8], number: BufferNumber) -> u32
     ensures { λ r. ⌜ LetsGo (letGo (now (books .entry)) (number .0)) (now (books .exit)) r ⌝ }
 {
     let used = words::get32(books, 0);
-    let i = number.0;
-    if used <= i {
+    if used <= number.0 {
         return 13;
     }
-    let e = books::entry_at(books, i as usize);
+    let e = books::entry_at(books, number);
     if e.hold == 0 {
         return 13;
     }
-    list_changes::release(books, i as usize);
+    list_changes::release(books, number);
     0
 }

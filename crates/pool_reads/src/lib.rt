@@ -13,11 +13,10 @@ pub fn buffer_refusal(books: &[u8], pool: &[u8], number: BufferNumber) -> u32
     ensures { λ r. ⌜ r ≡ readRefusal (now (books .entry)) (now (pool .entry)) (number .0) ⌝ }
 {
     let used = words::get32(books, 0);
-    let i = number.0;
-    if used <= i {
+    if used <= number.0 {
         return 13;
     }
-    let e = books::entry_at(books, i as usize);
+    let e = books::entry_at(books, number);
     if books::is_free(e) {
         return 13;
     }
@@ -32,7 +31,7 @@ pub fn buffer_part<'a>(books: &[u8], pool: &'a [u8], number: BufferNumber) -> &'
     ensures { λ r. ⌜ PartAt (pool .entry .ptr) (r .ptr) (partStart (now (books .entry)) (now (pool .entry)) (number .0)) ⌝ }
 {
     if buffer_refusal(books, pool, number) == 0 {
-        let e = books::entry_at(books, number.0 as usize);
+        let e = books::entry_at(books, number);
         let start = e.start as usize;
         let end = start + (e.length.0 as usize);
         &pool[start..end]

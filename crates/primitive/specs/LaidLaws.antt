@@ -54,7 +54,7 @@ bitmap-bit r body from i h = rw (bitmap-is r h) (run-later body (r .validity) (r
 -- ---- validity
 
 -- the bits asked for lie in the body
-pub bits-in : (slots begin size : ℕ) (r : ColumnRecord) {L : ℕ} (p : Rows) → Bitmapped slots begin size r L p → (r .validity ≡ 4294967295 → ⊥) → 8 * r .validity + (r .first + p .from) + p .count ≤ 8 * L
+pub bits-in : (slots begin size : ℕ) (r : ColumnRecord) {L : ℕ} (p : Rows) → Bitmapped slots begin size r L p → (r .validity ≡ 4294967295 → ⊥) → 8 * r .validity + (r .first + p .from) + p .count .0 ≤ 8 * L
 bits-in slots begin size r p b h = omega (arith, b .bits (bitmap-is r h))
 
 module _ (slots : List ℕ) (begin size : ℕ) (r : ColumnRecord) (body : List ℕ) (p : Rows) (fits : Bitmapped (length slots) begin size r (length body) p) where
@@ -63,30 +63,30 @@ module _ (slots : List ℕ) (begin size : ℕ) (r : ColumnRecord) (body : List �
   bitmap-there = fits .inside
 
   -- and has room for the rows
-  pub rows-there : p .at + p .count ≤ 8 * length (take (begin + size - begin) (drop begin slots))
+  pub rows-there : p .at + p .count .0 ≤ 8 * length (take (begin + size - begin) (drop begin slots))
   rows-there = omega (arith, length-part slots begin size bitmap-there, fits .rows)
 
   -- bits appended to the lent bitmap, whatever run they are of
   laid : (b : ℕ → ℕ) {t : List ℕ} → ((i : ℕ) → b i ≡ bitOf r body (p .from + i))
-      → t ≡ appended (take (begin + size - begin) (drop begin slots)) (p .at) b (p .count)
-      → putMid begin (begin + size - begin) slots t ≡ lay begin (appended (read begin size slots) (p .at) (bitsOf r body (p .from)) (p .count)) slots
+      → t ≡ appended (take (begin + size - begin) (drop begin slots)) (p .at) b (p .count .0)
+      → putMid begin (begin + size - begin) slots t ≡ lay begin (appended (read begin size slots) (p .at) (bitsOf r body (p .from)) (p .count .0)) slots
   laid b {t} f e =
       let l : length t ≡ size =
-      ap length e ∙ length-appended (take (begin + size - begin) (drop begin slots)) (p .at) b (p .count)
+      ap length e ∙ length-appended (take (begin + size - begin) (drop begin slots)) (p .at) b (p .count .0)
       ∙ length-part slots begin size bitmap-there in
       part-laid slots t begin size l bitmap-there
       ∙ ap (λ (x : List ℕ). lay begin x slots)
-      (e ∙ appended-ext _ (p .at) b (bitsOf r body (p .from)) (p .count) (λ j k. f j)
-      ∙ ap (λ (x : List ℕ). appended x (p .at) (bitsOf r body (p .from)) (p .count)) (part-read begin size slots))
+      (e ∙ appended-ext _ (p .at) b (bitsOf r body (p .from)) (p .count .0) (λ j k. f j)
+      ∙ ap (λ (x : List ℕ). appended x (p .at) (bitsOf r body (p .from)) (p .count .0)) (part-read begin size slots))
 
   pub ones-laid : {t : List ℕ} → r .validity ≡ 4294967295
-      → t ≡ appended (take (begin + size - begin) (drop begin slots)) (p .at) ones (p .count)
-      → putMid begin (begin + size - begin) slots t ≡ lay begin (appended (read begin size slots) (p .at) (bitsOf r body (p .from)) (p .count)) slots
+      → t ≡ appended (take (begin + size - begin) (drop begin slots)) (p .at) ones (p .count .0)
+      → putMid begin (begin + size - begin) slots t ≡ lay begin (appended (read begin size slots) (p .at) (bitsOf r body (p .from)) (p .count .0)) slots
   ones-laid h e = laid ones (λ i. no-bitmap r body (p .from + i) i h) e
 
   pub bits-laid : {t : List ℕ} → (r .validity ≡ 4294967295 → ⊥)
-      → t ≡ appended (take (begin + size - begin) (drop begin slots)) (p .at) (bitsFrom body (r .validity) (r .first + p .from)) (p .count)
-      → putMid begin (begin + size - begin) slots t ≡ lay begin (appended (read begin size slots) (p .at) (bitsOf r body (p .from)) (p .count)) slots
+      → t ≡ appended (take (begin + size - begin) (drop begin slots)) (p .at) (bitsFrom body (r .validity) (r .first + p .from)) (p .count .0)
+      → putMid begin (begin + size - begin) slots t ≡ lay begin (appended (read begin size slots) (p .at) (bitsOf r body (p .from)) (p .count .0)) slots
   bits-laid h e = laid (bitsFrom body (r .validity) (r .first + p .from)) (λ i. bitmap-bit r body (p .from) i h) e
 
 -- ---- values
@@ -103,17 +103,17 @@ start-fit v n w k h q = record { fits = omega (arith, rows-small n w (omega (ari
 
 module _ (slots : List ℕ) (r : ColumnRecord) (body : List ℕ) (w : ℕ) (p : Rows) (fits : Valued (length slots) r (length body) w p) where
   -- the values asked for lie in the body, and have a place in the slots
-  pub values-in : r .values + p .from * w + p .count * w ≤ length body
-  values-in = omega (arith, add-mul (p .from) (p .count) w, fits .values)
+  pub values-in : r .values + p .from * w + p .count .0 * w ≤ length body
+  values-in = omega (arith, add-mul (p .from) (p .count .0) w, fits .values)
 
-  pub cells-there : p .place + p .at * w + p .count * w ≤ length slots
-  cells-there = omega (arith, add-mul (p .at) (p .count) w, fits .inside)
+  pub cells-there : p .place + p .at * w + p .count .0 * w ≤ length slots
+  cells-there = omega (arith, add-mul (p .at) (p .count .0) w, fits .inside)
 
-  pub values-laid : {t : List ℕ} → t ≡ put (p .place + p .at * w) (read (r .values + p .from * w) (p .count * w) body) slots
-      → t ≡ lay (p .place + p .at * w) (read (r .values + p .from * w) (p .count * w) body) slots
+  pub values-laid : {t : List ℕ} → t ≡ put (p .place + p .at * w) (read (r .values + p .from * w) (p .count .0 * w) body) slots
+      → t ≡ lay (p .place + p .at * w) (read (r .values + p .from * w) (p .count .0 * w) body) slots
   values-laid {t} e =
-      let run : List ℕ = read (r .values + p .from * w) (p .count * w) body in
-      let m : length run ≡ p .count * w = length-read (r .values + p .from * w) (p .count * w) body values-in in
+      let run : List ℕ = read (r .values + p .from * w) (p .count .0 * w) body in
+      let m : length run ≡ p .count .0 * w = length-read (r .values + p .from * w) (p .count .0 * w) body values-in in
       let q : p .place + p .at * w + length run ≤ length slots = omega (arith, m, cells-there) in
       e ∙ sym (lay-put (p .place + p .at * w) run slots q)
 
@@ -124,11 +124,11 @@ pub valued-same : {L M : ℕ} {r : ColumnRecord} {n w : ℕ} {p : Rows} → M �
 valued-same e fits = rw e fits
 
 pub both-laid : (slots : List ℕ) (begin size : ℕ) (r : ColumnRecord) (body : List ℕ) (w : ℕ) (p : Rows) {t u : List ℕ}
-    → t ≡ lay begin (appended (read begin size slots) (p .at) (bitsOf r body (p .from)) (p .count)) slots
-    → u ≡ lay (p .place + p .at * w) (read (r .values + p .from * w) (p .count * w) body) t
+    → t ≡ lay begin (appended (read begin size slots) (p .at) (bitsOf r body (p .from)) (p .count .0)) slots
+    → u ≡ lay (p .place + p .at * w) (read (r .values + p .from * w) (p .count .0 * w) body) t
     → u ≡ rowsLaid begin size r body w p slots
 both-laid slots begin size r body w p e f =
-    f ∙ ap (lay (p .place + p .at * w) (read (r .values + p .from * w) (p .count * w) body)) e
+    f ∙ ap (lay (p .place + p .at * w) (read (r .values + p .from * w) (p .count .0 * w) body)) e
 
 -- ---- the same of worlds, over the memories, the batch and the record that the code has
 

@@ -16,6 +16,6 @@ pub record Placed (s : BatchCoalescer) (slot L : ℕ) (r : ColumnRecord) (body :
   pub in-columns : p .column < s .columns
   pub slots-are : L ≡ slotsLength s
   pub placed : p .place ≡ valuesPlace s slot (p .column)
-  pub room : p .at + p .count ≤ s .rows .0
-  pub bits : hasBitmap r ≡ true → 8 * r .validity + r .first + (p .from + p .count) ≤ 8 * body
-  pub values : r .values + (p .from + p .count) * widthOf s (p .column) ≤ body
+  pub room : p .at + p .count .0 ≤ s .rows .0
+  pub bits : hasBitmap r ≡ true → 8 * r .validity + r .first + (p .from + p .count .0) ≤ 8 * body
+  pub values : r .values + (p .from + p .count .0) * widthOf s (p .column) ≤ body

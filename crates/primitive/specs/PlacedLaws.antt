@@ -92,8 +92,8 @@ module _ {s : BatchCoalescer} {slot L : ℕ} {r : ColumnRecord} {body : ℕ} {p 
           narrow = narrow;
           small = omega (arith, place-small);
           inside =
-              let l : cellPlace s slot (p .column) (p .at) + p .count * width ≤ L = rw e (cells-below s (x .in-slots) (x .in-columns) (x .slots-are) (p .at) (p .count) (x .room)) in
-              omega (arith, l, cell-at, add-mul (p .at) (p .count) width);
+              let l : cellPlace s slot (p .column) (p .at) + p .count .0 * width ≤ L = rw e (cells-below s (x .in-slots) (x .in-columns) (x .slots-are) (p .at) (p .count .0) (x .room)) in
+              omega (arith, l, cell-at, add-mul (p .at) (p .count .0) width);
           values = rw e (x .values);
         }
 
@@ -108,11 +108,11 @@ module _ {s : BatchCoalescer} {slot L : ℕ} {r : ColumnRecord} {n : ℕ} {p : R
   b = batch rows records body
 
   pub placed-copied : {t : List ℕ} → t ≡ rowsLaid (p .place + s .rows .0 * width) size r body width p slots
-      → valuesCopied (bitsCopied (world s slots pool books) b slot (span (p .column) (p .at) (p .from) (p .count))) b slot (span (p .column) (p .at) (p .from) (p .count)) ≡ world s t pool books
+      → valuesCopied (bitsCopied (world s slots pool books) b slot (span (p .column) (p .at) (p .from) (p .count .0))) b slot (span (p .column) (p .at) (p .from) (p .count .0)) ≡ world s t pool books
   placed-copied {t} q =
-      ap (λ (w : World). valuesCopied w b slot (span (p .column) (p .at) (p .from) (p .count))) (sym (bits-copied s slots pool books rows records body (p .column) slot (p .at) (p .from) (p .count) own (begin-at x e) f refl))
-      ∙ sym (values-copied s half pool books rows records body (p .column) slot (p .at) (p .from) (p .count) own (cell-at x e) e q)
+      ap (λ (w : World). valuesCopied w b slot (span (p .column) (p .at) (p .from) (p .count .0))) (sym (bits-copied s slots pool books rows records body (p .column) slot (p .at) (p .from) (p .count .0) own (begin-at x e) f refl))
+      ∙ sym (values-copied s half pool books rows records body (p .column) slot (p .at) (p .from) (p .count .0) own (cell-at x e) e q)
     where
       half : List ℕ
       half =
-          lay (p .place + s .rows .0 * width) (appended (read (p .place + s .rows .0 * width) size slots) (p .at) (bitsOf r body (p .from)) (p .count)) slots
+          lay (p .place + s .rows .0 * width) (appended (read (p .place + s .rows .0 * width) size slots) (p .at) (bitsOf r body (p .from)) (p .count .0)) slots

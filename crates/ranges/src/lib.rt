@@ -12,6 +12,7 @@ ghost use Rattle.layout.specs.Few.{Few};
 ghost use Rattle.rules.specs.Ranges.{inBounds, blockInRange, columnInRange, listInRange, slotInRange, stateInRange, tested};
 ghost use Rattle.ranges.specs.Tested.{kindsKnown, fitsLengths, opensIn, notOpen, below, Sized};
 use counts::BufferNumber;
+use counts::ByteSum;
 use kinds::Width;
 use state::BatchCoalescer;
 use state::Column;
@@ -75,7 +76,7 @@ fn in_use(books: &[u8], k: BufferNumber) -> bool
     ensures { λ r. ⌜ r ≡ not (isFreeAt (now (books .entry)) (k .0)) ⌝ }
 {
     if k.0 < words::get32(books, 0) {
-        let e = books::entry_at(books, k.0 as usize);
+        let e = books::entry_at(books, k);
         if books::is_free(e) { false } else { true }
     } else {
         false
@@ -209,7 +210,7 @@ fn slot_in_range(s: BatchCoalescer, slots: &[u8], books: &[u8], slot: u32) -> bo
     requires { ⌜ (Sized s (length (now slots)) (length (now books))) × (slot ≤ s .queue) ⌝ }
     ensures { λ r. ⌜ r ≡ slotInRange (world s (now (slots .entry)) [] (now (books .entry))) slot ⌝ }
 {
-    if s.rows.0 < slot_counts::rows_in(s, books, slot) {
+    if s.rows.0 < slot_counts::rows_in(s, books, slot).0 {
         return false;
     }
     let mut c: u32 = 0;
@@ -246,7 +247,7 @@ fn state_in_range(s: BatchCoalescer, slots: &[u8], books: &[u8]) -> bool
     if s.place <= s.queue {
         (s.buffered.0 < s.target.0)
             & ((s.queued <= s.queue)
-                & (buffer_ranges::books_in_range(books, s.numbers, s.pool.0 as u64)
+                & (buffer_ranges::books_in_range(books, s.numbers, ByteSum(s.pool.0 as u64))
                     & (columns_in_range(s, books) & slots_in_range(s, slots, books))))
     } else {
         false

@@ -41,10 +41,10 @@ pub fn set_sources(
     books: &[u8],
     records: &[u8],
     body: &[u8],
-    rows: u32,
+    rows: RowCount,
 ) -> Sources
-    requires { ⌜ Pushing s (now books) (batch rows (now records) (now body)) ⌝ }
-    ensures { λ r. ⌜ Sourced r (world s [] [] (now (books .entry))) (batch rows (now (records .entry)) (now (body .entry))) ⌝ }
+    requires { ⌜ Pushing s (now books) (batch (rows .0) (now records) (now body)) ⌝ }
+    ensures { λ r. ⌜ Sourced r (world s [] [] (now (books .entry))) (batch (rows .0) (now (records .entry)) (now (body .entry))) ⌝ }
 {
     let mut all = no_sources();
     let mut c: u32 = 0;
@@ -63,24 +63,24 @@ pub enum Route {
     FinishFirst,
 }
 
-fn is_over(limit: Limit, rows: u32) -> bool
-    ensures { λ r. ⌜ r ≡ overLimit limit rows ⌝ }
+fn is_over(limit: Limit, rows: RowCount) -> bool
+    ensures { λ r. ⌜ r ≡ overLimit limit (rows .0) ⌝ }
 {
     match limit {
-        Limit::Rows(most) => most.0 < rows,
+        Limit::Rows(most) => most.0 < rows.0,
         Limit::Unset => false,
     }
 }
 
-pub fn route_of(s: BatchCoalescer, rows: u32) -> Route
-    ensures { λ r. ⌜ r ≡ routeOf s rows ⌝ }
+pub fn route_of(s: BatchCoalescer, rows: RowCount) -> Route
+    ensures { λ r. ⌜ r ≡ routeOf s (rows .0) ⌝ }
 {
     let limit = s.limit;
     if is_over(limit, rows) {
         if s.buffered.0 == 0 {
             Route::Whole
         } else {
-            if is_over(limit, s.buffered.0) {
+            if is_over(limit, s.buffered) {
                 Route::FinishFirst
             } else {
                 Route::Coalesce

@@ -89,7 +89,7 @@ fn front_row(s: BatchCoalescer, slots: &[u8], books: &[u8], c: u32, i: u32) -> R
         return RowAnswer::Refused(13);
     }
     let slot = layout::front_slot(s);
-    if i < slot_counts::rows_in(s, books, slot) {
+    if i < slot_counts::rows_in(s, books, slot).0 {
         row_answer(s, slots, books, slot, c, i)
     } else {
         RowAnswer::Refused(13)

@@ -35,11 +35,11 @@ pub fn list_length(s: BatchCoalescer, books: &[u8], slot: u32, c: u32) -> u32
 }
 
 // The rows of a slot.
-pub fn rows_in(s: BatchCoalescer, books: &[u8], slot: u32) -> u32
+pub fn rows_in(s: BatchCoalescer, books: &[u8], slot: u32) -> RowCount
     requires { ⌜ (Few s) × (slot ≤ s .queue) × (length (now books) ≡ booksLength s) ⌝ }
-    ensures { λ r. ⌜ r ≡ rowsIn (world s [] [] (now (books .entry))) slot ⌝ }
+    ensures { λ r. ⌜ r .0 ≡ rowsIn (world s [] [] (now (books .entry))) slot ⌝ }
 {
-    count_at(s, books, slot, 0)
+    RowCount(count_at(s, books, slot, 0))
 }
 
 // A count of a slot set.

@@ -104,7 +104,7 @@ module _ {w : World} {b : Batch} {x : Sources} {from n : ℕ} (a : Taking w b x 
 
   module _ {c : ℕ} {v : World} (k : ColumnsCopied w b x from n c v) (h : c < w .state .columns) where
     abbrev rowsAt : ℕ → Rows
-    rowsAt place = record { column = c; place = place; at = w .state .buffered .0; from = from; count = n }
+    rowsAt place = record { column = c; place = place; at = w .state .buffered .0; from = from; count = record { 0 = n } }
 
     same : (w₀ : World) → SameSetUp (w₀ .state) (w .state) → SameSetUp (w₀ .state) (v .state)
     same w₀ e = same-trans e (k .along .beside .set-up)

@@ -34,13 +34,13 @@ fn copy_column(
     books: &mut [u8],
     records: &[u8],
     body: &[u8],
-    rows: u32,
+    rows: RowCount,
     source: Source,
     p: Rows,
 ) -> Step
-    requires { ⌜ (Part (world s (now slots) (now pool) (now books)) (batch rows (now records) (now body)) (recordOf (batch rows (now records) (now body)) (p .column)) p)
-        × (Decided (world s (now slots) (now pool) (now books)) (batch rows (now records) (now body)) (p .column) source) ⌝ }
-    ensures { λ q. ⌜ Steps (copiedBy (world s (now (slots .entry)) (now (pool .entry)) (now (books .entry))) (batch rows (now (records .entry)) (now (body .entry))) p (source .way))
+    requires { ⌜ (Part (world s (now slots) (now pool) (now books)) (batch (rows .0) (now records) (now body)) (recordOf (batch (rows .0) (now records) (now body)) (p .column)) p)
+        × (Decided (world s (now slots) (now pool) (now books)) (batch (rows .0) (now records) (now body)) (p .column) source) ⌝ }
+    ensures { λ q. ⌜ Steps (copiedBy (world s (now (slots .entry)) (now (pool .entry)) (now (books .entry))) (batch (rows .0) (now (records .entry)) (now (body .entry))) p (source .way))
         q (now (slots .exit)) (now (pool .exit)) (now (books .exit)) ⌝ }
 {
     let r = records::record_at(records, p.column);
@@ -56,13 +56,13 @@ fn copy_as_is(
     books: &[u8],
     records: &[u8],
     body: &[u8],
-    rows: u32,
+    rows: RowCount,
     kind: u32,
     p: Rows,
 )
-    requires { ⌜ (Part (world s (now slots) (now pool) (now books)) (batch rows (now records) (now body)) (recordOf (batch rows (now records) (now body)) (p .column)) p)
+    requires { ⌜ (Part (world s (now slots) (now pool) (now books)) (batch (rows .0) (now records) (now body)) (recordOf (batch (rows .0) (now records) (now body)) (p .column)) p)
         × (kind ≡ columnOf s (p .column) .kind) ⌝ }
-    ensures { λ _. ⌜ copiedBy (world s (now (slots .entry)) (now (pool .entry)) (now (books .entry))) (batch rows (now (records .entry)) (now (body .entry))) p Way.Copied
+    ensures { λ _. ⌜ copiedBy (world s (now (slots .entry)) (now (pool .entry)) (now (books .entry))) (batch (rows .0) (now (records .entry)) (now (body .entry))) p Way.Copied
         ≡ ok (world s (now (slots .exit)) (now (pool .entry)) (now (books .entry))) ⌝ }
 {
     let r = records::record_at(records, p.column);
@@ -80,13 +80,13 @@ fn copy_part(
     books: &mut [u8],
     records: &[u8],
     body: &[u8],
-    rows: u32,
+    rows: RowCount,
     sources: Sources,
     from: u32,
-    n: u32,
+    n: RowCount,
 ) -> Step
-    requires { ⌜ Taking (world s (now slots) (now pool) (now books)) (batch rows (now records) (now body)) sources from n ⌝ }
-    ensures { λ q. ⌜ Takes (world s (now (slots .entry)) (now (pool .entry)) (now (books .entry))) (batch rows (now (records .entry)) (now (body .entry))) sources from n
+    requires { ⌜ Taking (world s (now slots) (now pool) (now books)) (batch (rows .0) (now records) (now body)) sources from (n .0) ⌝ }
+    ensures { λ q. ⌜ Takes (world s (now (slots .entry)) (now (pool .entry)) (now (books .entry))) (batch (rows .0) (now (records .entry)) (now (body .entry))) sources from (n .0)
         q (now (slots .exit)) (now (pool .exit)) (now (books .exit)) ⌝ }
 {
     let mut t = s;
@@ -104,7 +104,7 @@ fn copy_part(
         };
         let column = s.column[at];
         let kind = column.kind;
-        place = place + layout::column_size(kind, s.rows.0, s.lists);
+        place = place + layout::column_size(kind, s.rows, s.lists);
         c += 1;
         let way = source.way;
         match way {
@@ -119,7 +119,7 @@ fn copy_part(
             }
         }
     }
-    let buffered = RowCount(s.buffered.0 + n);
+    let buffered = RowCount(s.buffered.0 + n.0);
     t.buffered = buffered;
     Step {
         state: t,
@@ -135,13 +135,13 @@ fn copy_and_finish(
     books: &mut [u8],
     records: &[u8],
     body: &[u8],
-    rows: u32,
+    rows: RowCount,
     sources: Sources,
     from: u32,
-    n: u32,
+    n: RowCount,
 ) -> Step
-    requires { ⌜ Taking (world s (now slots) (now pool) (now books)) (batch rows (now records) (now body)) sources from n ⌝ }
-    ensures { λ q. ⌜ TakesThen (world s (now (slots .entry)) (now (pool .entry)) (now (books .entry))) (batch rows (now (records .entry)) (now (body .entry))) sources from n
+    requires { ⌜ Taking (world s (now slots) (now pool) (now books)) (batch (rows .0) (now records) (now body)) sources from (n .0) ⌝ }
+    ensures { λ q. ⌜ TakesThen (world s (now (slots .entry)) (now (pool .entry)) (now (books .entry))) (batch (rows .0) (now (records .entry)) (now (body .entry))) sources from (n .0)
         q (now (slots .exit)) (now (pool .exit)) (now (books .exit)) ⌝ }
 {
     let step = copy_part(s, slots, pool, books, records, body, rows, sources, from, n);
@@ -161,24 +161,24 @@ fn coalesce_rows(
     books: &mut [u8],
     records: &[u8],
     body: &[u8],
-    rows: u32,
+    rows: RowCount,
     sources: Sources,
 ) -> Step
-    requires { ⌜ Cutting (world s (now slots) (now pool) (now books)) (batch rows (now records) (now body)) sources ⌝ }
-    ensures { λ q. ⌜ Steps (coalesced rows (world s (now (slots .entry)) (now (pool .entry)) (now (books .entry))) (world s (now (slots .entry)) (now (pool .entry)) (now (books .entry))) (batch rows (now (records .entry)) (now (body .entry))) 0)
+    requires { ⌜ Cutting (world s (now slots) (now pool) (now books)) (batch (rows .0) (now records) (now body)) sources ⌝ }
+    ensures { λ q. ⌜ Steps (coalesced (rows .0) (world s (now (slots .entry)) (now (pool .entry)) (now (books .entry))) (world s (now (slots .entry)) (now (pool .entry)) (now (books .entry))) (batch (rows .0) (now (records .entry)) (now (body .entry))) 0)
         q (now (slots .exit)) (now (pool .exit)) (now (books .exit)) ⌝ }
 {
     let mut t = s;
     let mut from: u32 = 0;
-    while t.target.0 - t.buffered.0 < rows - from {
-        let n = t.target.0 - t.buffered.0;
+    while t.target.0 - t.buffered.0 < rows.0 - from {
+        let n = RowCount(t.target.0 - t.buffered.0);
         let step = copy_and_finish(t, slots, pool, books, records, body, rows, sources, from, n);
         if step.number == 0 {
             t = step.state;
         } else {
             return step;
         }
-        from += n;
+        from += n.0;
     }
     copy_and_finish(
         t,
@@ -190,7 +190,7 @@ fn coalesce_rows(
         rows,
         sources,
         from,
-        rows - from,
+        RowCount(rows.0 - from),
     )
 }
 
@@ -203,11 +203,11 @@ pub fn push_rows(
     records: &[u8],
     body: &[u8],
     sources: Sources,
-    rows: u32,
+    rows: RowCount,
 ) -> Step
-    requires { ⌜ (Pushing s (now books) (batch rows (now records) (now body))) × (Sourced sources (world s [] [] (now books)) (batch rows (now records) (now body)))
+    requires { ⌜ (Pushing s (now books) (batch (rows .0) (now records) (now body))) × (Sourced sources (world s [] [] (now books)) (batch (rows .0) (now records) (now body)))
         × (length (now slots) ≡ slotsLength s) × (length (now pool) ≡ s .pool .0) ⌝ }
-    ensures { λ q. ⌜ Steps (stepped (world s (now (slots .entry)) (now (pool .entry)) (now (books .entry))) (batch rows (now (records .entry)) (now (body .entry))))
+    ensures { λ q. ⌜ Steps (stepped (world s (now (slots .entry)) (now (pool .entry)) (now (books .entry))) (batch (rows .0) (now (records .entry)) (now (body .entry))))
         q (now (slots .exit)) (now (pool .exit)) (now (books .exit)) ⌝ }
 {
     let route = routes::route_of(s, rows);

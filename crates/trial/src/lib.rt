@@ -31,12 +31,12 @@ fn try_part(
     body: &[u8],
     sources: Sources,
     from: u32,
-    n: u32,
+    n: RowCount,
 ) -> Step
-    requires { ⌜ (Trying s (now books)) × (Triable s sources (batch (from + n) (now records) (now body)))
-        × (s .buffered .0 + n ≤ 65536) ⌝ }
-    ensures { λ q. ⌜ (TriesPart s (now (books .entry)) n q (now (books .exit)))
-        × (TellsPart s (now (books .entry)) sources (now (records .entry)) (now (body .entry)) from n q (now (books .exit))) ⌝ }
+    requires { ⌜ (Trying s (now books)) × (Triable s sources (batch (from + n .0) (now records) (now body)))
+        × (s .buffered .0 + n .0 ≤ 65536) ⌝ }
+    ensures { λ q. ⌜ (TriesPart s (now (books .entry)) (n .0) q (now (books .exit)))
+        × (TellsPart s (now (books .entry)) sources (now (records .entry)) (now (body .entry)) from (n .0) q (now (books .exit))) ⌝ }
 {
     let mut t = s;
     let mut c: u32 = 0;
@@ -59,7 +59,7 @@ fn try_part(
             }
         }
     }
-    let buffered = RowCount(s.buffered.0 + n);
+    let buffered = RowCount(s.buffered.0 + n.0);
     t.buffered = buffered;
     Step {
         state: t,
@@ -134,12 +134,12 @@ fn try_and_finish(
     body: &[u8],
     sources: Sources,
     from: u32,
-    n: u32,
+    n: RowCount,
 ) -> Step
-    requires { ⌜ (Trying s (now books)) × (Triable s sources (batch (from + n) (now records) (now body)))
-        × (s .buffered .0 + n ≤ 65536) ⌝ }
-    ensures { λ q. ⌜ (TriesThen s (now (books .entry)) n q (now (books .exit)))
-        × (TellsThen s (now (books .entry)) sources (now (records .entry)) (now (body .entry)) from n q (now (books .exit))) ⌝ }
+    requires { ⌜ (Trying s (now books)) × (Triable s sources (batch (from + n .0) (now records) (now body)))
+        × (s .buffered .0 + n .0 ≤ 65536) ⌝ }
+    ensures { λ q. ⌜ (TriesThen s (now (books .entry)) (n .0) q (now (books .exit)))
+        × (TellsThen s (now (books .entry)) sources (now (records .entry)) (now (body .entry)) from (n .0) q (now (books .exit))) ⌝ }
 {
     let step = try_part(s, books, records, body, sources, from, n);
     if step.number == 0 {
@@ -161,26 +161,34 @@ fn try_rows(
     records: &[u8],
     body: &[u8],
     sources: Sources,
-    rows: u32,
+    rows: RowCount,
 ) -> u32
-    requires { ⌜ (Trying s (now books)) × (Triable s sources (batch rows (now records) (now body)))
+    requires { ⌜ (Trying s (now books)) × (Triable s sources (batch (rows .0) (now records) (now body)))
         × (s .buffered .0 < s .target .0) ⌝ }
     ensures { λ r. ⌜ (Tried (now (books .entry)) (now (books .exit)) (s .numbers))
-        × (TellsRows s (now (books .entry)) sources (batch rows (now (records .entry)) (now (body .entry))) r) ⌝ }
+        × (TellsRows s (now (books .entry)) sources (batch (rows .0) (now (records .entry)) (now (body .entry))) r) ⌝ }
 {
     let mut t = s;
     let mut from: u32 = 0;
-    while t.target.0 - t.buffered.0 < rows - from {
-        let n = t.target.0 - t.buffered.0;
+    while t.target.0 - t.buffered.0 < rows.0 - from {
+        let n = RowCount(t.target.0 - t.buffered.0);
         let step = try_and_finish(t, books, records, body, sources, from, n);
         if step.number == 0 {
             t = step.state;
         } else {
             return step.number;
         }
-        from += n;
+        from += n.0;
     }
-    try_and_finish(t, books, records, body, sources, from, rows - from).number
+    try_and_finish(
+        t,
+        books,
+        records,
+        body,
+        sources,
+        from,
+        RowCount(rows.0 - from),
+    ).number
 }
 
 // Finishing on trial, then queueing whole.
@@ -204,12 +212,12 @@ fn try_push(
     records: &[u8],
     body: &[u8],
     sources: Sources,
-    rows: u32,
+    rows: RowCount,
 ) -> u32
-    requires { ⌜ (Trying s (now books)) × (Triable s sources (batch rows (now records) (now body)))
+    requires { ⌜ (Trying s (now books)) × (Triable s sources (batch (rows .0) (now records) (now body)))
         × (s .buffered .0 < s .target .0) ⌝ }
     ensures { λ r. ⌜ (Tried (now (books .entry)) (now (books .exit)) (s .numbers))
-        × (Tells s (now (books .entry)) sources (batch rows (now (records .entry)) (now (body .entry))) r) ⌝ }
+        × (Tells s (now (books .entry)) sources (batch (rows .0) (now (records .entry)) (now (body .entry))) r) ⌝ }
 {
     let route = routes::route_of(s, rows);
     match route {
@@ -226,12 +234,12 @@ pub fn room_refusal(
     records: &[u8],
     body: &[u8],
     sources: Sources,
-    rows: u32,
+    rows: RowCount,
 ) -> u32
-    requires { ⌜ (Pushing s (now books) (batch rows (now records) (now body))) × (Sourced sources (world s [] [] (now books)) (batch rows (now records) (now body)))
+    requires { ⌜ (Pushing s (now books) (batch (rows .0) (now records) (now body))) × (Sourced sources (world s [] [] (now books)) (batch (rows .0) (now records) (now body)))
         × (Unmarked (now books)) × (OwnBlocks s (now books)) ⌝ }
     ensures { λ r. ⌜ (now (books .exit) ≡ now (books .entry))
-        × (Answers s (now (books .entry)) (batch rows (now (records .entry)) (now (body .entry))) r) ⌝ }
+        × (Answers s (now (books .entry)) (batch (rows .0) (now (records .entry)) (now (body .entry))) r) ⌝ }
 {
     let used = words::get32(books, 0);
     let lacking = try_push(s, books, records, body, sources, rows);

@@ -9,6 +9,7 @@ ghost use Rattle.trial_truth.specs.Like.{Buffers, TellsAttached, TellsCompacted
 ghost use Rattle.trial_column.specs.Trying.{Trying, TriesColumn, Bufferable, Compactable};
 use byte_view::Source;
 use counts::ByteSum;
+use counts::RowCount;
 use room::Chosen;
 use rules::ColumnRecord;
 use rules::Step;
@@ -27,7 +28,7 @@ fn try_buffer(s: BatchCoalescer, books: &mut [u8], c: u32, n: u32, min: ByteSum)
         let source = column.source;
         let next = source.next_size(min);
         let size = next.size;
-        let chosen = making_room::try_block(books, s.numbers, s.pool.0, size);
+        let chosen = making_room::try_block(books, s.numbers, s.pool, size);
         match chosen {
             Chosen::Refused(number) => Step { state: s, number },
             Chosen::At(r) => {
@@ -57,12 +58,12 @@ fn try_compact(
     ideal: ByteSum,
     c: u32,
     from: u32,
-    n: u32,
+    n: RowCount,
 ) -> Step
-    requires { ⌜ (Trying s (now books)) × (c < s .columns) × (isViews s c ≡ true) × (from + n ≤ 65536)
-        × (r .values + (from + n) * 16 ≤ length (now body)) ⌝ }
+    requires { ⌜ (Trying s (now books)) × (c < s .columns) × (isViews s c ≡ true) × (from + n .0 ≤ 65536)
+        × (r .values + (from + n .0) * 16 ≤ length (now body)) ⌝ }
     ensures { λ q. ⌜ (TriesColumn s (now (books .entry)) (q .state) (now (books .exit)))
-        × (TellsCompacted s (now (books .entry)) (now (body .entry)) r (ideal .0) c from n q (now (books .exit))) ⌝ }
+        × (TellsCompacted s (now (books .entry)) (now (body .entry)) r (ideal .0) c from (n .0) q (now (books .exit))) ⌝ }
 {
     let list = columns::list_closed(s, books, c);
     let block = layout::column_of(s, c).block;
@@ -114,11 +115,11 @@ pub fn try_column(
     source: Source,
     c: u32,
     from: u32,
-    n: u32,
+    n: RowCount,
 ) -> Step
-    requires { ⌜ (Trying s (now books)) × (c < s .columns) × (Compactable s (now body) r (source .way) c from n) ⌝ }
+    requires { ⌜ (Trying s (now books)) × (c < s .columns) × (Compactable s (now body) r (source .way) c from (n .0)) ⌝ }
     ensures { λ q. ⌜ (TriesColumn s (now (books .entry)) (q .state) (now (books .exit)))
-        × (TellsColumn s (now (books .entry)) (now (body .entry)) r source c from n q (now (books .exit))) ⌝ }
+        × (TellsColumn s (now (books .entry)) (now (body .entry)) r source c from (n .0) q (now (books .exit))) ⌝ }
 {
     let way = source.way;
     match way {

@@ -5,12 +5,13 @@ ghost use lib.ListN.{length};
 ghost use Rattle.books.specs.Entry.{usedOf};
 ghost use Rattle.room.specs.Trial.{wipedOf, untried};
 use books::Entry;
+use counts::BufferNumber;
 use counts::ByteCount;
 
 // The entry of number i becomes zero if it bears the trial's mark.
-fn wipe_one(books: &mut [u8], i: usize)
-    requires { ⌜ 24 + 20 * i ≤ length (now books) ⌝ }
-    ensures { λ _. ⌜ now (books .exit) ≡ wipedOf (now (books .entry)) i ⌝ }
+fn wipe_one(books: &mut [u8], i: BufferNumber)
+    requires { ⌜ 24 + 20 * i .0 ≤ length (now books) ⌝ }
+    ensures { λ _. ⌜ now (books .exit) ≡ wipedOf (now (books .entry)) (i .0) ⌝ }
 {
     let e = books::entry_at(books, i);
     if e.hold == 2 {
@@ -34,7 +35,7 @@ pub fn end_trial(books: &mut [u8], used: u32)
     let top = words::get32(books, 0);
     let mut i: u32 = 0;
     while i < top {
-        wipe_one(books, i as usize);
+        wipe_one(books, BufferNumber(i));
         i += 1;
     }
     words::put32(books, 0, used);

@@ -52,22 +52,22 @@ module _ (v : World) (rows : ℕ) (records body : List ℕ) (r : ColumnRecord) (
   value-at = rw (views-width (v .state) c y, p)
 
   module _ {w : Walked} (e : w ≡ walkOf (viewsAt body (r .values + from * 16)) n rest) where
-    rows-at : w .rows ≡ walked v b c from n rest
+    rows-at : w .rows .0 ≡ walked v b c from n rest
     unfolding walkOf
     rows-at =
-        ap (λ (z : Walked). z .rows) e
+        ap (λ (z : Walked). z .rows .0) e
         ∙ ap (λ (k : ℕ). walkRows (viewsAt body k) n rest) (sym value-at)
         ∙ sym (walked-is v b c (views-width (v .state) c y) from n rest)
 
-    bytes-own : w .bytes .0 ≡ longTo (viewsAt body (r .values + from * 16)) (w .rows)
+    bytes-own : w .bytes .0 ≡ longTo (viewsAt body (r .values + from * 16)) (w .rows .0)
     unfolding walkOf
-    bytes-own = ap (λ (z : Walked). z .bytes .0) e ∙ ap (λ (z : Walked). longTo (viewsAt body (r .values + from * 16)) (z .rows)) (sym e)
+    bytes-own = ap (λ (z : Walked). z .bytes .0) e ∙ ap (λ (z : Walked). longTo (viewsAt body (r .values + from * 16)) (z .rows .0)) (sym e)
 
     bytes-at : w .bytes .0 ≡ longBefore v b c from (walked v b c from n rest)
     bytes-at =
         bytes-own
-        ∙ ap (λ (k : ℕ). longTo (viewsAt body k) (w .rows)) (sym value-at)
-        ∙ sym (long-before-is v b c (views-width (v .state) c y) from (w .rows))
+        ∙ ap (λ (k : ℕ). longTo (viewsAt body k) (w .rows .0)) (sym value-at)
+        ∙ sym (long-before-is v b c (views-width (v .state) c y) from (w .rows .0))
         ∙ ap (longBefore v b c from) rows-at
 
 block-at : (s : BatchCoalescer) (c : ℕ) {k : Column} {o : OpenBlock} → k ≡ columnOf s c → k .block ≡ o → columnOf s c .block ≡ o

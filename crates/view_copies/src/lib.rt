@@ -8,6 +8,9 @@ ghost use Rattle.views.specs.View.{raisedBy, repointed};
 ghost use Rattle.rules.specs.Copies.{viewsAt, longTo, viewsPut, bytesCarried};
 ghost use Rattle.byte_view.specs.Copying.{sourceIn, Entered, Spanned, Raisable, Carriable, Copyable, Copied};
 use byte_view::Copying;
+use counts::BufferNumber;
+use counts::ByteCount;
+use counts::RowCount;
 use views::View;
 
 // n views of the body from `from` on, at `to` of the slots on, with k added to the index of long ones.
@@ -16,14 +19,14 @@ pub fn append_views_and_update_buffer_index(
     to: usize,
     body: &[u8],
     from: usize,
-    n: u32,
+    n: RowCount,
     k: u32,
 )
-    requires { ⌜ (Spanned (now body) from (length (now slots)) to n) × (Raisable (now body) from n k) ⌝ }
-    ensures { λ _. ⌜ now (slots .exit) ≡ viewsPut (λ i. raisedBy k (viewsAt (now (body .entry)) from i)) (now (slots .entry)) to n ⌝ }
+    requires { ⌜ (Spanned (now body) from (length (now slots)) to (n .0)) × (Raisable (now body) from (n .0) k) ⌝ }
+    ensures { λ _. ⌜ now (slots .exit) ≡ viewsPut (λ i. raisedBy k (viewsAt (now (body .entry)) from i)) (now (slots .entry)) to (n .0) ⌝ }
 {
     let mut i: u32 = 0;
-    while i < n {
+    while i < n.0 {
         let v = views::view_at(body, from + (i as usize) * 16);
         views::put_view(slots, to + (i as usize) * 16, views::raise(v, k));
         i += 1;
@@ -36,18 +39,18 @@ fn source_place(books: &[u8], body: &[u8], j: Copying, v: View) -> usize
     ensures { λ r. ⌜ (r ≡ sourceIn (now (books .entry)) (now (body .entry)) (j .list) v) × (r < 2 ^ 33) ⌝ }
 {
     let k = words::get32(body, j.list + 4 * (v.index as usize));
-    let e = books::entry_at(books, k as usize);
+    let e = books::entry_at(books, BufferNumber(k));
     (e.start as usize) + (v.offset as usize)
 }
 
 // The bytes of a long view, behind the `filled` bytes of the block.
-fn carry_view(pool: &mut [u8], books: &[u8], body: &[u8], j: Copying, v: View, filled: u32)
+fn carry_view(pool: &mut [u8], books: &[u8], body: &[u8], j: Copying, v: View, filled: ByteCount)
     requires { ⌜ (Entered (now books) (now body) (j .list) (j .count)) × (v .index < j .count)
-        × (sourceIn (now books) (now body) (j .list) v + v .length ≤ length (now pool)) × (j .start + filled + v .length ≤ length (now pool)) ⌝ }
-    ensures { λ _. ⌜ now (pool .exit) ≡ carried (now (pool .entry)) (sourceIn (now (books .entry)) (now (body .entry)) (j .list) v) (j .start + filled) (v .length) ⌝ }
+        × (sourceIn (now books) (now body) (j .list) v + v .length ≤ length (now pool)) × (j .start + filled .0 + v .length ≤ length (now pool)) ⌝ }
+    ensures { λ _. ⌜ now (pool .exit) ≡ carried (now (pool .entry)) (sourceIn (now (books .entry)) (now (body .entry)) (j .list) v) (j .start + filled .0) (v .length) ⌝ }
 {
     let from = source_place(books, body, j, v);
-    let to = (j.start as usize) + (filled as usize);
+    let to = (j.start as usize) + (filled.0 as usize);
     carrying::carry(pool, from, to, v.length as usize);
 }
 
@@ -59,10 +62,10 @@ fn append_view(
     body: &[u8],
     j: Copying,
     i: u32,
-    filled: u32,
-) -> u32
-    requires { ⌜ Copyable (now books) (now body) (now pool) (length (now slots)) j i filled ⌝ }
-    ensures { λ r. ⌜ Copied (now (books .entry)) (now (body .entry)) (now (slots .entry)) (now (pool .entry)) j i filled (now (slots .exit)) (now (pool .exit)) r ⌝ }
+    filled: ByteCount,
+) -> ByteCount
+    requires { ⌜ Copyable (now books) (now body) (now pool) (length (now slots)) j i (filled .0) ⌝ }
+    ensures { λ r. ⌜ Copied (now (books .entry)) (now (body .entry)) (now (slots .entry)) (now (pool .entry)) j i (filled .0) (now (slots .exit)) (now (pool .exit)) (r .0) ⌝ }
 {
     let at = j.to + (i as usize) * 16;
     let v = views::view_at(body, j.from + (i as usize) * 16);
@@ -71,8 +74,8 @@ fn append_view(
         return filled;
     }
     carry_view(pool, books, body, j, v, filled);
-    views::put_view(slots, at, views::repoint(v, j.index, filled));
-    filled + v.length
+    views::put_view(slots, at, views::repoint(v, j.index, filled.0));
+    ByteCount(filled.0 + v.length)
 }
 
 // n views, each with its bytes behind the `filled` bytes of the block: answers how many are filled then.
@@ -82,17 +85,17 @@ pub fn append_views_and_copy_strings_inner(
     books: &[u8],
     body: &[u8],
     j: Copying,
-    n: u32,
-    filled: u32,
-) -> u32
-    requires { ⌜ (Spanned (now body) (j .from) (length (now slots)) (j .to) n) × (Carriable (now books) (now body) (now pool) j n filled) ⌝ }
-    ensures { λ r. ⌜ (r ≡ filled + longTo (viewsAt (now (body .entry)) (j .from)) n)
-        × (now (slots .exit) ≡ viewsPut (λ i. repointed (j .index) (filled + longTo (viewsAt (now (body .entry)) (j .from)) i) (viewsAt (now (body .entry)) (j .from) i)) (now (slots .entry)) (j .to) n)
-        × (now (pool .exit) ≡ bytesCarried (viewsAt (now (body .entry)) (j .from)) (sourceIn (now (books .entry)) (now (body .entry)) (j .list)) (now (pool .entry)) (j .start + filled) n) ⌝ }
+    n: RowCount,
+    filled: ByteCount,
+) -> ByteCount
+    requires { ⌜ (Spanned (now body) (j .from) (length (now slots)) (j .to) (n .0)) × (Carriable (now books) (now body) (now pool) j (n .0) (filled .0)) ⌝ }
+    ensures { λ r. ⌜ (r .0 ≡ filled .0 + longTo (viewsAt (now (body .entry)) (j .from)) (n .0))
+        × (now (slots .exit) ≡ viewsPut (λ i. repointed (j .index) (filled .0 + longTo (viewsAt (now (body .entry)) (j .from)) i) (viewsAt (now (body .entry)) (j .from) i)) (now (slots .entry)) (j .to) (n .0))
+        × (now (pool .exit) ≡ bytesCarried (viewsAt (now (body .entry)) (j .from)) (sourceIn (now (books .entry)) (now (body .entry)) (j .list)) (now (pool .entry)) (j .start + filled .0) (n .0)) ⌝ }
 {
     let mut so_far = filled;
     let mut i: u32 = 0;
-    while i < n {
+    while i < n.0 {
         so_far = append_view(slots, pool, books, body, j, i, so_far);
         i += 1;
     }

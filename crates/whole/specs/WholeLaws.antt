@@ -44,7 +44,7 @@ module _ {s : BatchCoalescer} {slots : List ℕ} {rows : ℕ} {records body : Li
   rowed-column = omega (arith, rowed-few .columns, x .column)
 
   abbrev whole : Rows
-  whole = record { column = c; place = place; at = 0; from = 0; count = rows }
+  whole = record { column = c; place = place; at = 0; from = 0; count = record { 0 = rows } }
 
   module _ {r : ColumnRecord} (own : r ≡ recordOf (batch rows records body) c) where
     reads : ColumnReads (world s slots (x .pool) (x .books)) (batch rows records body) c

@@ -10,6 +10,7 @@ ghost use Rattle.state.specs.Layout.{valuesPlace, booksLength};
 ghost use Rattle.rules.specs.Batch.{batch, recordOf};
 ghost use Rattle.routes.specs.Route.{wholeRefusal};
 ghost use Rattle.whole.specs.Whole.{Rowed, LaysRows, Columned, LaysColumn, Wholly, LaysColumns, Asks, QueuesWhole, QueuesFirst};
+use counts::RowCount;
 use primitive::Rows;
 use rules::ColumnRecord;
 use rules::Step;
@@ -43,7 +44,7 @@ fn next_place(s: BatchCoalescer, c: u32, place: usize) -> usize
 {
     let at = c as usize;
     let column = s.column[at];
-    place + layout::column_size(column.kind, s.rows.0, s.lists)
+    place + layout::column_size(column.kind, s.rows, s.lists)
 }
 
 // Values and validity of column c of a whole batch in the slot being filled, views unchanged.
@@ -52,13 +53,13 @@ fn lay_rows(
     slots: &mut [u8],
     records: &[u8],
     body: &[u8],
-    rows: u32,
+    rows: RowCount,
     r: ColumnRecord,
     c: u32,
     place: usize,
 )
-    requires { ⌜ (Rowed s (now slots) (batch rows (now records) (now body)) c place) × (r ≡ recordOf (batch rows (now records) (now body)) c) ⌝ }
-    ensures { λ _. ⌜ LaysRows s (now (slots .entry)) (batch rows (now (records .entry)) (now (body .entry))) c (now (slots .exit)) ⌝ }
+    requires { ⌜ (Rowed s (now slots) (batch (rows .0) (now records) (now body)) c place) × (r ≡ recordOf (batch (rows .0) (now records) (now body)) c) ⌝ }
+    ensures { λ _. ⌜ LaysRows s (now (slots .entry)) (batch (rows .0) (now (records .entry)) (now (body .entry))) c (now (slots .exit)) ⌝ }
 {
     let p = Rows {
         column: c,
@@ -80,12 +81,12 @@ fn copy_whole(
     books: &mut [u8],
     records: &[u8],
     body: &[u8],
-    rows: u32,
+    rows: RowCount,
     c: u32,
     place: usize,
 )
-    requires { ⌜ Columned s (now slots) (now books) (batch rows (now records) (now body)) c place ⌝ }
-    ensures { λ _. ⌜ LaysColumn s (now (slots .entry)) (now (books .entry)) (batch rows (now (records .entry)) (now (body .entry))) c (now (slots .exit)) (now (books .exit)) ⌝ }
+    requires { ⌜ Columned s (now slots) (now books) (batch (rows .0) (now records) (now body)) c place ⌝ }
+    ensures { λ _. ⌜ LaysColumn s (now (slots .entry)) (now (books .entry)) (batch (rows .0) (now (records .entry)) (now (body .entry))) c (now (slots .exit)) (now (books .exit)) ⌝ }
 {
     let r = records::record_at(records, c);
     lay_rows(s, slots, records, body, rows, r, c, place);
@@ -99,10 +100,10 @@ fn copy_columns(
     books: &mut [u8],
     records: &[u8],
     body: &[u8],
-    rows: u32,
+    rows: RowCount,
 )
-    requires { ⌜ Wholly s (now slots) (now books) (batch rows (now records) (now body)) ⌝ }
-    ensures { λ _. ⌜ LaysColumns s (now (slots .entry)) (now (books .entry)) (batch rows (now (records .entry)) (now (body .entry))) (s .columns) (now (slots .exit)) (now (books .exit)) ⌝ }
+    requires { ⌜ Wholly s (now slots) (now books) (batch (rows .0) (now records) (now body)) ⌝ }
+    ensures { λ _. ⌜ LaysColumns s (now (slots .entry)) (now (books .entry)) (batch (rows .0) (now (records .entry)) (now (body .entry))) (s .columns) (now (slots .exit)) (now (books .exit)) ⌝ }
 {
     let mut place = layout::values_place(s, s.place, 0);
     let mut c: u32 = 0;
@@ -120,10 +121,10 @@ pub fn queue_whole(
     books: &mut [u8],
     records: &[u8],
     body: &[u8],
-    rows: u32,
+    rows: RowCount,
 ) -> Step
-    requires { ⌜ Asks s (now slots) (now books) (batch rows (now records) (now body)) ⌝ }
-    ensures { λ q. ⌜ QueuesWhole s (now (slots .entry)) (now (books .entry)) (batch rows (now (records .entry)) (now (body .entry))) q (now (slots .exit)) (now (books .exit)) ⌝ }
+    requires { ⌜ Asks s (now slots) (now books) (batch (rows .0) (now records) (now body)) ⌝ }
+    ensures { λ q. ⌜ QueuesWhole s (now (slots .entry)) (now (books .entry)) (batch (rows .0) (now (records .entry)) (now (body .entry))) q (now (slots .exit)) (now (books .exit)) ⌝ }
 {
     let number = try_whole(s, books, records);
     if number == 0 {
@@ -145,10 +146,10 @@ pub fn finish_first(
     books: &mut [u8],
     records: &[u8],
     body: &[u8],
-    rows: u32,
+    rows: RowCount,
 ) -> Step
-    requires { ⌜ Asks s (now slots) (now books) (batch rows (now records) (now body)) ⌝ }
-    ensures { λ q. ⌜ QueuesFirst s (now (slots .entry)) (now (books .entry)) (batch rows (now (records .entry)) (now (body .entry))) q (now (slots .exit)) (now (books .exit)) ⌝ }
+    requires { ⌜ Asks s (now slots) (now books) (batch (rows .0) (now records) (now body)) ⌝ }
+    ensures { λ q. ⌜ QueuesFirst s (now (slots .entry)) (now (books .entry)) (batch (rows .0) (now (records .entry)) (now (body .entry))) q (now (slots .exit)) (now (books .exit)) ⌝ }
 {
     let step = finishing::finish(s, slots, books);
     if step.number == 0 {

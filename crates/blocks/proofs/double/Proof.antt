@@ -4,8 +4,8 @@ use Rattle.blocks.specs.BlockLaws.{doubled-below, doubled-top}
 use Rattle.blocks.proofs.double.Statement.{statement}
 use Rattle.blocks.proofs.double.Tie as tie
 
-mul-result : tie.Need-mul-result
-mul-result c = search needs
+mul-t4 : tie.Need-mul-t4
+mul-t4 c = search needs
 
 returns : tie.Need-returns
 returns c = search (doubled-below, needs)
@@ -14,4 +14,9 @@ returns-2 : tie.Need-returns-2
 returns-2 c = search (doubled-top, needs)
 
 pub double-spec : {M : Type 1} → statement M
-double-spec = tie.close (tie.spec mul-result returns returns-2)
+double-spec =
+    tie.close
+    (tie.spec
+    mul-t4
+    returns
+    returns-2)

@@ -10,16 +10,16 @@ use Rattle.blocks.proofs.grow.Statement.{statement}
 use Rattle.blocks.proofs.grow.Tie as tie
 
 abbrev Inv-loop : tie.InvT-loop
-Inv-loop size min s₀ s = (1 ≤ s) × (s < 4294967296) × (grown size min ≡ grown s min)
+Inv-loop min s₀ s = (1 ≤ s) × (s < 4294967296) × (grown s₀ (min .0) ≡ grown s (min .0))
 
 abbrev μ-loop : tie.MeasureT-loop
-μ-loop size min s₀ s = 2097152 - s
+μ-loop min s₀ s = 2097152 - s
 
 loop-holds : tie.Need-loop-holds Inv-loop μ-loop
 loop-holds c = search needs
 
-cast-loop : tie.Need-cast-loop Inv-loop μ-loop
-cast-loop c = search needs
+cast-if1 : tie.Need-cast-if1 Inv-loop μ-loop
+cast-if1 c = search needs
 
 mul-s : tie.Need-mul-s Inv-loop μ-loop
 mul-s c = omega (arith, ltb-true)
@@ -39,4 +39,13 @@ returns-2 c = search (grown-min, ltb-false, needs)
 pub grow-spec : {M : Type 1} → statement M
 grow-spec =
     tie.close
-    (tie.spec Inv-loop μ-loop loop-holds cast-loop mul-s loop-less loop-again returns returns-2)
+    (tie.spec
+    Inv-loop
+    μ-loop
+    loop-holds
+    cast-if1
+    mul-s
+    loop-less
+    loop-again
+    returns
+    returns-2)

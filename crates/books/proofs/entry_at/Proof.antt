@@ -4,6 +4,9 @@ use Rattle.books.specs.EntryLaws.{entry-is}
 use Rattle.books.proofs.entry_at.Statement.{statement}
 use Rattle.books.proofs.entry_at.Tie as tie
 
+cast-at : tie.Need-cast-at
+cast-at c = search needs
+
 mul-at : tie.Need-mul-at
 mul-at c = search needs
 
@@ -44,6 +47,7 @@ pub entry-at-spec : {M : Type 1} → statement M
 entry-at-spec =
     tie.close
     (tie.spec
+    cast-at
     mul-at
     add-at
     get32-requires

@@ -4,6 +4,9 @@ use Rattle.books.specs.Entry.{withEntry}
 use Rattle.books.proofs.put_entry.Statement.{statement}
 use Rattle.books.proofs.put_entry.Tie as tie
 
+cast-at : tie.Need-cast-at
+cast-at c = search needs
+
 mul-at : tie.Need-mul-at
 mul-at c = search needs
 
@@ -48,6 +51,7 @@ pub put-entry-spec : {M : Type 1} → statement M
 put-entry-spec =
     tie.close
     (tie.spec
+    cast-at
     mul-at
     add-at
     put32-requires

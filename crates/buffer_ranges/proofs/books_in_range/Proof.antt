@@ -7,7 +7,7 @@ use Rattle.buffer_ranges.proofs.books_in_range.Statement.{statement}
 use Rattle.buffer_ranges.proofs.books_in_range.Tie as tie
 
 abbrev Inv-loop : tie.InvT-loop
-Inv-loop books n pool used i₀ i = (i ≤ used) × (used < 2 ^ 32) × All (fit books pool) i
+Inv-loop books n pool used i₀ i = (i ≤ used) × (used < 2 ^ 32) × All (fit books (pool .0)) i
 
 abbrev μ-loop : tie.MeasureT-loop
 μ-loop books n pool used i₀ i = used - i
@@ -20,9 +20,6 @@ returns c = search (range-over, needs)
 
 loop-holds : tie.Need-loop-holds Inv-loop μ-loop
 loop-holds c = search (range-none, needs)
-
-cast-entry-at : tie.Need-cast-entry-at Inv-loop μ-loop
-cast-entry-at c = search needs
 
 entry-at-requires : tie.Need-entry-at-requires Inv-loop μ-loop
 entry-at-requires c κs = search (range-room, needs)
@@ -54,7 +51,6 @@ books-in-range-spec =
     get32-requires
     returns
     loop-holds
-    cast-entry-at
     entry-at-requires
     fits-in-requires
     add-i

@@ -28,9 +28,6 @@ add-get32 c = search needs
 get32-requires : tie.Need-get32-requires Inv-loop μ-loop
 get32-requires c κs = search needs
 
-cast-entry-at : tie.Need-cast-entry-at Inv-loop μ-loop
-cast-entry-at c = search needs
-
 entry-at-requires : tie.Need-entry-at-requires Inv-loop μ-loop
 entry-at-requires c κs = search (entered-room, needs)
 
@@ -63,7 +60,6 @@ actual-of-spec =
     mul-get32
     add-get32
     get32-requires
-    cast-entry-at
     entry-at-requires
     cast-sum
     add-sum

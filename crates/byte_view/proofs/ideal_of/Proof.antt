@@ -9,10 +9,10 @@ use Rattle.byte_view.proofs.ideal_of.Statement.{statement}
 use Rattle.byte_view.proofs.ideal_of.Tie as tie
 
 abbrev Inv-loop : tie.InvT-loop
-Inv-loop body at rows sum₀ i₀ sum i = (i ≤ rows) × (rows ≤ 65536) × Bytes body × (sum ≤ i * 4294967295) × (sum ≡ longTo (viewsAt body at) i)
+Inv-loop body at rows sum₀ i₀ sum i = (i ≤ rows .0) × (rows .0 ≤ 65536) × Bytes body × (sum ≤ i * 4294967295) × (sum ≡ longTo (viewsAt body at) i)
 
 abbrev μ-loop : tie.MeasureT-loop
-μ-loop body at rows sum₀ i₀ sum i = rows - i
+μ-loop body at rows sum₀ i₀ sum i = rows .0 - i
 
 loop-holds : tie.Need-loop-holds Inv-loop μ-loop
 loop-holds c = search (ideal-none, bytes-known {s = c .before .args .body .now} (c .shared-slice-known .given), needs)

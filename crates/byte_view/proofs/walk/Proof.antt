@@ -6,10 +6,10 @@ use Rattle.byte_view.proofs.walk.Statement.{statement}
 use Rattle.byte_view.proofs.walk.Tie as tie
 
 abbrev Inv-loop : tie.InvT-loop
-Inv-loop body at n rest left₀ i₀ left i = (i ≤ n) × (n ≤ 65536) × (left ≤ rest .0) × Walking body at (rest .0) left i
+Inv-loop body at n rest left₀ i₀ left i = (i ≤ n .0) × (n .0 ≤ 65536) × (left ≤ rest .0) × Walking body at (rest .0) left i
 
 abbrev μ-loop : tie.MeasureT-loop
-μ-loop body at n rest left₀ i₀ left i = n - i
+μ-loop body at n rest left₀ i₀ left i = n .0 - i
 
 loop-holds : tie.Need-loop-holds Inv-loop μ-loop
 loop-holds c = search (walking-none, needs)
@@ -26,11 +26,11 @@ add-view-at c = search needs
 view-at-requires : tie.Need-view-at-requires Inv-loop μ-loop
 view-at-requires c κs = search needs
 
-cast-if1 : tie.Need-cast-if1 Inv-loop μ-loop
-cast-if1 c = search needs
+cast-if2 : tie.Need-cast-if2 Inv-loop μ-loop
+cast-if2 c = search needs
 
-sub-t13 : tie.Need-sub-t13 Inv-loop μ-loop
-sub-t13 c = search needs
+sub-t14 : tie.Need-sub-t14 Inv-loop μ-loop
+sub-t14 c = search needs
 
 returns : tie.Need-returns Inv-loop μ-loop
 returns c = (search (walked-at, needs), search needs, search needs)
@@ -50,8 +50,8 @@ loop-less c = search needs
 loop-again : tie.Need-loop-again Inv-loop μ-loop
 loop-again c = search (walking-more, walking-fits, needs)
 
-sub-t16 : tie.Need-sub-t16 Inv-loop μ-loop
-sub-t16 c = search needs
+sub-t17 : tie.Need-sub-t17 Inv-loop μ-loop
+sub-t17 c = search needs
 
 returns-2 : tie.Need-returns-2 Inv-loop μ-loop
 returns-2 c = (search (walked-all, needs), search needs, search needs)
@@ -67,13 +67,13 @@ walk-spec =
     mul-view-at
     add-view-at
     view-at-requires
-    cast-if1
-    sub-t13
+    cast-if2
+    sub-t14
     returns
     long-length-requires
     sub-left
     add-i
     loop-less
     loop-again
-    sub-t16
+    sub-t17
     returns-2)

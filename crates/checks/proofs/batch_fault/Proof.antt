@@ -9,7 +9,7 @@ use Rattle.checks.proofs.batch_fault.Statement.{statement}
 use Rattle.checks.proofs.batch_fault.Tie as tie
 
 abbrev Inv-loop : tie.InvT-loop
-Inv-loop pool books records body rows s c₀ c = (c ≤ s .columns) × Passed (faultyAt s pool books records body rows) c
+Inv-loop pool books records body rows s c₀ c = (c ≤ s .columns) × Passed (faultyAt s pool books records body (rows .0)) c
 
 abbrev μ-loop : tie.MeasureT-loop
 μ-loop pool books records body rows s c₀ c = s .columns - c

@@ -28,12 +28,7 @@ is-view-requires c κs = search needs
 
 row-fault-requires : tie.Need-row-fault-requires
 row-fault-requires c κs =
-    let held = c .before .before .before in
-    let lies = held .before .before in
-    let rules = lies .before .before in
-    let width = rules .before .before in
-    let start = width .before .before .before .before .before in
-    (record-heeded _ _ _ _ _ _ _ (start .pre .0) (rules .keeps-rules .ensures) (lies .before .if1 .taken) (lies .lies-in-body .ensures) (held .before .if2 .taken) (held .all-held .ensures) (c .before .before .if3 .taken), start .pre .3, rows-in _ _ _ _ _ (start .pre .5) (width .width-in .ensures .0) (lies .lies-in-body .ensures) (held .before .if2 .taken) (c .before .is-view .ensures) (c .if4 .taken))
+    (record-heeded _ _ _ _ _ _ _ (c .before .before .before .before .before .before .before .before .before .before .before .before .before .before .pre .0) (c .before .before .before .before .before .before .before .keeps-rules .ensures) (c .before .before .before .before .before .before .if1 .taken) (c .before .before .before .before .before .lies-in-body .ensures) (c .before .before .before .before .if2 .taken) (c .before .before .before .all-held .ensures) (c .before .before .if3 .taken), c .before .before .before .before .before .before .before .before .before .before .before .before .before .before .pre .3, rows-in _ _ _ _ _ (c .before .before .before .before .before .before .before .before .before .before .before .before .before .before .pre .5) (c .before .before .before .before .before .before .before .before .before .width-in .ensures .0) (c .before .before .before .before .before .lies-in-body .ensures) (c .before .before .before .before .if2 .taken) (c .before .is-view .ensures) (c .if4 .taken))
 
 fault-requires : tie.Need-fault-requires
 fault-requires c κs = search needs

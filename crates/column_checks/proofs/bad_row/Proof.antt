@@ -8,10 +8,10 @@ use Rattle.column_checks.proofs.bad_row.Statement.{statement}
 use Rattle.column_checks.proofs.bad_row.Tie as tie
 
 abbrev Inv-loop : tie.InvT-loop
-Inv-loop books pool body r rows i₀ i = (i ≤ rows) × Passed (badAt books pool body r) i
+Inv-loop books pool body r rows i₀ i = (i ≤ rows .0) × Passed (badAt books pool body r) i
 
 abbrev μ-loop : tie.MeasureT-loop
-μ-loop books pool body r rows i₀ i = rows - i
+μ-loop books pool body r rows i₀ i = rows .0 - i
 
 loop-holds : tie.Need-loop-holds Inv-loop μ-loop
 loop-holds c = search (bad-none, needs)

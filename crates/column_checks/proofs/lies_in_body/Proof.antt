@@ -4,8 +4,11 @@ use Rattle.column_checks.specs.RuleLaws.{values-fit, values-few, lies-ar
 use Rattle.column_checks.proofs.lies_in_body.Statement.{statement}
 use Rattle.column_checks.proofs.lies_in_body.Tie as tie
 
-mul-in-body : tie.Need-mul-in-body
-mul-in-body c = search (values-fit, needs)
+cast-t6 : tie.Need-cast-t6
+cast-t6 c = search needs
+
+mul-t8 : tie.Need-mul-t8
+mul-t8 c = search (values-fit, needs)
 
 in-body-requires : tie.Need-in-body-requires
 in-body-requires c κs = search (values-few, needs)
@@ -13,11 +16,11 @@ in-body-requires c κs = search (values-few, needs)
 bits-in-body-requires : tie.Need-bits-in-body-requires
 bits-in-body-requires c κs = search needs
 
-cast-in-body : tie.Need-cast-in-body
-cast-in-body c = search needs
+cast-t12 : tie.Need-cast-t12
+cast-t12 c = search needs
 
-mul-in-body-2 : tie.Need-mul-in-body-2
-mul-in-body-2 c = search needs
+mul-t13 : tie.Need-mul-t13
+mul-t13 c = search needs
 
 in-body-requires-2 : tie.Need-in-body-requires-2
 in-body-requires-2 c κs = search needs
@@ -29,10 +32,11 @@ pub lies-in-body-spec : {M : Type 1} → statement M
 lies-in-body-spec =
     tie.close
     (tie.spec
-    mul-in-body
+    cast-t6
+    mul-t8
     in-body-requires
     bits-in-body-requires
-    cast-in-body
-    mul-in-body-2
+    cast-t12
+    mul-t13
     in-body-requires-2
     returns)

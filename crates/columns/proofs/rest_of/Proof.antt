@@ -4,14 +4,11 @@ use Rattle.columns.specs.ExitLaws.{rest-some, rest-none}
 use Rattle.columns.proofs.rest_of.Statement.{statement}
 use Rattle.columns.proofs.rest_of.Tie as tie
 
-cast-entry-at : tie.Need-cast-entry-at
-cast-entry-at c = search needs
-
 entry-at-requires : tie.Need-entry-at-requires
 entry-at-requires c κs = search needs
 
-cast-t8 : tie.Need-cast-t8
-cast-t8 c = search needs
+cast-t7 : tie.Need-cast-t7
+cast-t7 c = search needs
 
 returns : tie.Need-returns
 returns c = search (rest-some, needs)
@@ -20,4 +17,10 @@ returns-2 : tie.Need-returns-2
 returns-2 c = search (rest-none, needs)
 
 pub rest-of-spec : {M : Type 1} → statement M
-rest-of-spec = tie.close (tie.spec cast-entry-at entry-at-requires cast-t8 returns returns-2)
+rest-of-spec =
+    tie.close
+    (tie.spec
+    entry-at-requires
+    cast-t7
+    returns
+    returns-2)

@@ -19,9 +19,6 @@ get32-requires c κs = search needs
 loop-holds : tie.Need-loop-holds Inv-loop μ-loop
 loop-holds c = search (free-none, needs)
 
-cast-entry-at : tie.Need-cast-entry-at Inv-loop μ-loop
-cast-entry-at c = search needs
-
 entry-at-requires : tie.Need-entry-at-requires Inv-loop μ-loop
 entry-at-requires c κs = search (used-room′, needs)
 
@@ -54,7 +51,6 @@ lowest-free-spec =
     μ-loop
     get32-requires
     loop-holds
-    cast-entry-at
     entry-at-requires
     is-free-requires
     returns

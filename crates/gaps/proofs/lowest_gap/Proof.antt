@@ -14,6 +14,9 @@ Inv-loop books pool want end at₀ at = (at < 2 ^ 33) × Passed (clearAt books w
 abbrev μ-loop : tie.MeasureT-loop
 μ-loop books pool want end at₀ at = end + 1 - at
 
+cast-end : tie.Need-cast-end Inv-loop μ-loop
+cast-end c = search needs
+
 returns : tie.Need-returns Inv-loop μ-loop
 returns c = search (gap-none, needs)
 
@@ -44,6 +47,7 @@ lowest-gap-spec =
     (tie.spec
     Inv-loop
     μ-loop
+    cast-end
     returns
     loop-holds
     sweep-requires

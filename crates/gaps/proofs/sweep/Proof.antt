@@ -9,7 +9,7 @@ use Rattle.gaps.proofs.sweep.Statement.{statement}
 use Rattle.gaps.proofs.sweep.Tie as tie
 
 abbrev Inv-loop : tie.InvT-loop
-Inv-loop books at size used next₀ i₀ next i = (i ≤ used) × (used < 2 ^ 32) × (next < 2 ^ 33) × (next ≡ swept books size at i)
+Inv-loop books at size used next₀ i₀ next i = (i ≤ used) × (used < 2 ^ 32) × (next < 2 ^ 33) × (next ≡ swept books (size .0) at i)
 
 abbrev μ-loop : tie.MeasureT-loop
 μ-loop books at size used next₀ i₀ next i = used - i
@@ -19,9 +19,6 @@ get32-requires c κs = search needs
 
 loop-holds : tie.Need-loop-holds Inv-loop μ-loop
 loop-holds c = search (swept-none, needs)
-
-cast-entry-at : tie.Need-cast-entry-at Inv-loop μ-loop
-cast-entry-at c = search needs
 
 entry-at-requires : tie.Need-entry-at-requires Inv-loop μ-loop
 entry-at-requires c κs = search (used-room, needs)
@@ -49,7 +46,6 @@ sweep-spec =
     μ-loop
     get32-requires
     loop-holds
-    cast-entry-at
     entry-at-requires
     past-requires
     add-i

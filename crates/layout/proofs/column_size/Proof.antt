@@ -5,8 +5,14 @@ use Rattle.layout.specs.ExitLaws.{size-some, size-none, size-fits, sum-f
 use Rattle.layout.proofs.column_size.Statement.{statement}
 use Rattle.layout.proofs.column_size.Tie as tie
 
+cast-bitmap : tie.Need-cast-bitmap
+cast-bitmap c = search needs
+
 add-bitmap : tie.Need-add-bitmap
 add-bitmap c = search needs
+
+cast-values : tie.Need-cast-values
+cast-values c = search needs
 
 width-in-requires : tie.Need-width-in-requires
 width-in-requires c κs = search needs
@@ -39,7 +45,9 @@ pub column-size-spec : {M : Type 1} → statement M
 column-size-spec =
     tie.close
     (tie.spec
+    cast-bitmap
     add-bitmap
+    cast-values
     width-in-requires
     mul-values
     is-view-requires

@@ -23,9 +23,6 @@ mul-get32 c = search needs
 get32-requires : tie.Need-get32-requires Inv-loop μ-loop
 get32-requires c κs = search needs
 
-cast-list-one : tie.Need-cast-list-one Inv-loop μ-loop
-cast-list-one c = search needs
-
 list-one-requires : tie.Need-list-one-requires Inv-loop μ-loop
 list-one-requires c κs = search (listed-room, needs)
 
@@ -53,7 +50,6 @@ list-all-spec =
     loop-holds
     mul-get32
     get32-requires
-    cast-list-one
     list-one-requires
     add-i
     loop-less

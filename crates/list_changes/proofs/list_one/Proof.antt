@@ -4,6 +4,9 @@ use Rattle.listings.specs.ListingLaws.{listed-is}
 use Rattle.list_changes.proofs.list_one.Statement.{statement}
 use Rattle.list_changes.proofs.list_one.Tie as tie
 
+cast-at : tie.Need-cast-at
+cast-at c = search needs
+
 mul-at : tie.Need-mul-at
 mul-at c = search needs
 
@@ -32,6 +35,7 @@ pub list-one-spec : {M : Type 1} → statement M
 list-one-spec =
     tie.close
     (tie.spec
+    cast-at
     mul-at
     add-at
     add-at-2

@@ -4,6 +4,9 @@ use Rattle.listings.specs.ListingLaws.{released-is, word-room}
 use Rattle.list_changes.proofs.release.Statement.{statement}
 use Rattle.list_changes.proofs.release.Tie as tie
 
+cast-put32 : tie.Need-cast-put32
+cast-put32 c = search needs
+
 mul-put32 : tie.Need-mul-put32
 mul-put32 c = search needs
 
@@ -29,6 +32,7 @@ pub release-spec : {M : Type 1} → statement M
 release-spec =
     tie.close
     (tie.spec
+    cast-put32
     mul-put32
     add-put32
     add-put32-2

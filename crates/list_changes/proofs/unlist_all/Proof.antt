@@ -24,9 +24,6 @@ mul-get32 c = search needs
 get32-requires : tie.Need-get32-requires Inv-loop μ-loop
 get32-requires c κs = search needs
 
-cast-unlist-one : tie.Need-cast-unlist-one Inv-loop μ-loop
-cast-unlist-one c = search needs
-
 unlist-one-requires : tie.Need-unlist-one-requires Inv-loop μ-loop
 unlist-one-requires c κs = search (listed-room, needs)
 
@@ -54,7 +51,6 @@ unlist-all-spec =
     loop-holds
     mul-get32
     get32-requires
-    cast-unlist-one
     unlist-one-requires
     add-i
     loop-less

@@ -4,6 +4,9 @@ use Rattle.listings.specs.ListingLaws.{unlisted-less, unlisted-none, word-room}
 use Rattle.list_changes.proofs.unlist_one.Statement.{statement}
 use Rattle.list_changes.proofs.unlist_one.Tie as tie
 
+cast-at : tie.Need-cast-at
+cast-at c = search needs
+
 mul-at : tie.Need-mul-at
 mul-at c = search needs
 
@@ -44,6 +47,7 @@ pub unlist-one-spec : {M : Type 1} → statement M
 unlist-one-spec =
     tie.close
     (tie.spec
+    cast-at
     mul-at
     add-at
     add-at-2

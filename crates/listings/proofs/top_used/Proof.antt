@@ -19,9 +19,6 @@ loop-holds c = search needs
 sub-below : tie.Need-sub-below Inv-loop μ-loop
 sub-below c = search needs
 
-cast-entry-at : tie.Need-cast-entry-at Inv-loop μ-loop
-cast-entry-at c = search needs
-
 entry-at-requires : tie.Need-entry-at-requires Inv-loop μ-loop
 entry-at-requires c κs = search needs
 
@@ -48,7 +45,6 @@ top-used-spec =
     μ-loop
     loop-holds
     sub-below
-    cast-entry-at
     entry-at-requires
     is-free-requires
     loop-less

@@ -20,17 +20,14 @@ same-length c = search needs
 returns : tie.Need-returns
 returns c = search (opens-not, needs)
 
-cast-entry-at : tie.Need-cast-entry-at
-cast-entry-at c = search needs
-
 entry-at-requires : tie.Need-entry-at-requires
 entry-at-requires c κs = search (number-room, needs)
 
 is-zero-requires : tie.Need-is-zero-requires
 is-zero-requires c κs = search needs
 
-cast-t18 : tie.Need-cast-t18
-cast-t18 c = let f = c .before .before .before .before .before .before .before in record { fits = capacity-fits _ _ _ _ (f .before .before .choose .ensures) (f .room .given .1) (omega arith) }
+cast-t17 : tie.Need-cast-t17
+cast-t17 c = let f = c .before .before .before .before .before .before in record { fits = capacity-fits _ _ _ _ (f .before .before .choose .ensures) (f .room .given .1) (omega (arith, c .before .before .before .before .before .before .before .before .before .before .before .good .1 .1 .0)) }
 
 take-entry-requires : tie.Need-take-entry-requires
 take-entry-requires c κs = search (number-room, number-few, needs)
@@ -56,10 +53,9 @@ open-as-spec =
     enum-told
     same-length
     returns
-    cast-entry-at
     entry-at-requires
     is-zero-requires
-    cast-t18
+    cast-t17
     take-entry-requires
     same-length-2
     returns-2

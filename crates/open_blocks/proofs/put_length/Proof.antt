@@ -4,6 +4,9 @@ use Rattle.open_blocks.specs.OpenLaws.{length-put}
 use Rattle.open_blocks.proofs.put_length.Statement.{statement}
 use Rattle.open_blocks.proofs.put_length.Tie as tie
 
+cast-put32 : tie.Need-cast-put32
+cast-put32 c = search needs
+
 mul-put32 : tie.Need-mul-put32
 mul-put32 c = search needs
 
@@ -20,4 +23,12 @@ returns : tie.Need-returns
 returns c = search (length-put, needs)
 
 pub put-length-spec : {M : Type 1} → statement M
-put-length-spec = tie.close (tie.spec mul-put32 add-put32 put32-requires same-length returns)
+put-length-spec =
+    tie.close
+    (tie.spec
+    cast-put32
+    mul-put32
+    add-put32
+    put32-requires
+    same-length
+    returns)

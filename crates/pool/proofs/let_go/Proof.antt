@@ -14,9 +14,6 @@ same-length c = search needs
 returns : tie.Need-returns
 returns c = search (gone-beyond, needs)
 
-cast-entry-at : tie.Need-cast-entry-at
-cast-entry-at c = search needs
-
 entry-at-requires : tie.Need-entry-at-requires
 entry-at-requires c κs = search (used-room, needs)
 
@@ -25,9 +22,6 @@ same-length-2 c = search needs
 
 returns-2 : tie.Need-returns-2
 returns-2 c = search (gone-not-held, needs)
-
-cast-release : tie.Need-cast-release
-cast-release c = search needs
 
 release-requires : tie.Need-release-requires
 release-requires c κs = search (used-room, needs)
@@ -45,11 +39,9 @@ let-go-spec =
     get32-requires
     same-length
     returns
-    cast-entry-at
     entry-at-requires
     same-length-2
     returns-2
-    cast-release
     release-requires
     same-length-3
     returns-3)

@@ -12,11 +12,11 @@ cast-if1 c = search needs
 returns : tie.Need-returns
 returns c = search (short, needs)
 
-cast-size : tie.Need-cast-size
-cast-size c = search needs
+cast-t14 : tie.Need-cast-t14
+cast-t14 c = search needs
 
-cast-t16 : tie.Need-cast-t16
-cast-t16 c = search needs
+cast-t17 : tie.Need-cast-t17
+cast-t17 c = search needs
 
 choose-requires : tie.Need-choose-requires
 choose-requires c κs = search needs
@@ -51,8 +51,8 @@ register-spec =
     (tie.spec
     cast-if1
     returns
-    cast-size
-    cast-t16
+    cast-t14
+    cast-t17
     choose-requires
     enum-known-chosen
     enum-known-chosen-2

@@ -8,9 +8,6 @@ use Rattle.pool_reads.proofs.buffer_part.Tie as tie
 buffer-refusal-requires : tie.Need-buffer-refusal-requires
 buffer-refusal-requires c κs = search needs
 
-cast-entry-at : tie.Need-cast-entry-at
-cast-entry-at c = search needs
-
 entry-at-requires : tie.Need-entry-at-requires
 entry-at-requires c κs = search (part-room, needs)
 
@@ -46,7 +43,6 @@ buffer-part-spec =
     tie.close
     (tie.spec
     buffer-refusal-requires
-    cast-entry-at
     entry-at-requires
     cast-start
     cast-end

@@ -11,9 +11,6 @@ get32-requires c κs = search needs
 returns : tie.Need-returns
 returns c = search (read-beyond, needs)
 
-cast-entry-at : tie.Need-cast-entry-at
-cast-entry-at c = search needs
-
 entry-at-requires : tie.Need-entry-at-requires
 entry-at-requires c κs = search (used-room, needs)
 
@@ -44,7 +41,6 @@ buffer-refusal-spec =
     (tie.spec
     get32-requires
     returns
-    cast-entry-at
     entry-at-requires
     is-free-requires
     returns-2

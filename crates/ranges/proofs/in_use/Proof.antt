@@ -7,9 +7,6 @@ use Rattle.ranges.proofs.in_use.Tie as tie
 get32-requires : tie.Need-get32-requires
 get32-requires c κs = search needs
 
-cast-entry-at : tie.Need-cast-entry-at
-cast-entry-at c = search needs
-
 entry-at-requires : tie.Need-entry-at-requires
 entry-at-requires c κs = search needs
 
@@ -30,7 +27,6 @@ in-use-spec =
     tie.close
     (tie.spec
     get32-requires
-    cast-entry-at
     entry-at-requires
     is-free-requires
     returns

@@ -4,8 +4,8 @@ use Rattle.ranges.specs.RangeLaws.{entries-room, state-is, state-place}
 use Rattle.ranges.proofs.state_in_range.Statement.{statement}
 use Rattle.ranges.proofs.state_in_range.Tie as tie
 
-cast-books-in-range : tie.Need-cast-books-in-range
-cast-books-in-range c = search needs
+cast-t9 : tie.Need-cast-t9
+cast-t9 c = search needs
 
 books-in-range-requires : tie.Need-books-in-range-requires
 books-in-range-requires c κs = search (entries-room, needs)
@@ -26,7 +26,7 @@ pub state-in-range-spec : {M : Type 1} → statement M
 state-in-range-spec =
     tie.close
     (tie.spec
-    cast-books-in-range
+    cast-t9
     books-in-range-requires
     columns-in-range-requires
     slots-in-range-requires

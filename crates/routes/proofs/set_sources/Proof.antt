@@ -10,7 +10,7 @@ use Rattle.routes.proofs.set_sources.Statement.{statement}
 use Rattle.routes.proofs.set_sources.Tie as tie
 
 abbrev Inv-loop : tie.InvT-loop
-Inv-loop s books records body rows all₀ c₀ all c = (c ≤ s .columns) × (s .columns ≤ 16) × (SourcedTo (all .column) (world s [] [] books) (batch rows records body) c)
+Inv-loop s books records body rows all₀ c₀ all c = (c ≤ s .columns) × (s .columns ≤ 16) × (SourcedTo (all .column) (world s [] [] books) (batch (rows .0) records body) c)
 
 abbrev μ-loop : tie.MeasureT-loop
 μ-loop s books records body rows all₀ c₀ all c = s .columns - c

@@ -14,7 +14,7 @@ use Rattle.trial.proofs.try_part.Statement.{statement}
 use Rattle.trial.proofs.try_part.Tie as tie
 
 abbrev Inv-loop : tie.InvT-loop
-Inv-loop s books₀ records body from n sources t₀ c₀ books t c = (c ≤ s .columns) × (s .columns ≤ 16) × (length books ≡ length books₀) × (TriesColumn s books₀ t books) × (TellsTo s books₀ sources records body from n c t books)
+Inv-loop s books₀ records body from n sources t₀ c₀ books t c = (c ≤ s .columns) × (s .columns ≤ 16) × (length books ≡ length books₀) × (TriesColumn s books₀ t books) × (TellsTo s books₀ sources records body from (n .0) c t books)
 
 abbrev μ-loop : tie.MeasureT-loop
 μ-loop s books₀ records body from n sources t₀ c₀ books t c = s .columns - c
@@ -32,7 +32,7 @@ element-copy-out-source : tie.Need-element-copy-out-source Inv-loop μ-loop
 element-copy-out-source c = search needs
 
 record-at-requires : tie.Need-record-at-requires Inv-loop μ-loop
-record-at-requires c κs = record-asks (c .before .before .before .before .before .before .before .args .from) (c .before .before .before .before .before .before .before .args .n) (c .before .before .before .before .before .before .before .pre .1) (c .before .before .before .loop .inv .3) (c .before .if1 .taken)
+record-at-requires c κs = record-asks (c .before .before .before .before .before .before .before .args .from) (c .before .before .before .before .before .before .before .args .n .0) (c .before .before .before .before .before .before .before .pre .1) (c .before .before .before .loop .inv .3) (c .before .if1 .taken)
 
 add-c : tie.Need-add-c Inv-loop μ-loop
 add-c c = search needs
@@ -49,8 +49,8 @@ loop-again c = (omega (arith, c .before .before .before .before .if1 .taken), c 
 try-column-requires : tie.Need-try-column-requires Inv-loop μ-loop
 try-column-requires c κs = (
   c .before .before .before .before .before .before .loop .inv .3 .tries .trying,
-  column-in (c .before .before .before .before .before .before .before .before .before .before .args .from) (c .before .before .before .before .before .before .before .before .before .before .args .n) (c .before .before .before .before .before .before .before .before .before .before .pre .1) (c .before .before .before .before .before .before .loop .inv .3) (c .before .before .before .before .if1 .taken),
-  column-asks (c .before .before .before .before .before .before .before .before .before .before .args .from) (c .before .before .before .before .before .before .before .before .before .before .args .n) (c .before .before .before .before .before .before .before .before .before .before .pre .1) (c .before .before .before .before .before .before .loop .inv .3) (c .before .before .before .before .if1 .taken) (c .before .before .record-at .ensures) refl,
+  column-in (c .before .before .before .before .before .before .before .before .before .before .args .from) (c .before .before .before .before .before .before .before .before .before .before .args .n .0) (c .before .before .before .before .before .before .before .before .before .before .pre .1) (c .before .before .before .before .before .before .loop .inv .3) (c .before .before .before .before .if1 .taken),
+  column-asks (c .before .before .before .before .before .before .before .before .before .before .args .from) (c .before .before .before .before .before .before .before .before .before .before .args .n .0) (c .before .before .before .before .before .before .before .before .before .before .pre .1) (c .before .before .before .before .before .before .loop .inv .3) (c .before .before .before .before .if1 .taken) (c .before .before .record-at .ensures) refl,
 )
 
 loop-less-2 : tie.Need-loop-less-2 Inv-loop μ-loop
@@ -63,16 +63,16 @@ same-length : tie.Need-same-length Inv-loop μ-loop
 same-length c = search needs
 
 returns : tie.Need-returns Inv-loop μ-loop
-returns c = (part-refused (c .before .before .before .before .before .before .before .before .before .before .before .before .before .before .before .args .n) (c .before .before .before .before .before .before .before .before .before .before .before .loop .inv .3) (c .before .before .before .before .try-column .ensures .0) (c .if2 .left), part-stops (c .before .before .before .before .before .before .before .before .before .before .before .loop .inv .4) (c .before .before .before .before .before .before .before .before .before .before .before .loop .inv .3 .tries .set-up) (c .before .before .before .before .before .before .before .before .before .if1 .taken) (c .before .before .before .before .before .before .before .record-at .ensures) (c .before .before .before .before .try-column .ensures .1) (c .if2 .left))
+returns c = (part-refused (c .before .before .before .before .before .before .before .before .before .before .before .before .before .before .before .args .n .0) (c .before .before .before .before .before .before .before .before .before .before .before .loop .inv .3) (c .before .before .before .before .try-column .ensures .0) (c .if2 .left), part-stops (c .before .before .before .before .before .before .before .before .before .before .before .loop .inv .4) (c .before .before .before .before .before .before .before .before .before .before .before .loop .inv .3 .tries .set-up) (c .before .before .before .before .before .before .before .before .before .if1 .taken) (c .before .before .before .before .before .before .before .record-at .ensures) (c .before .before .before .before .try-column .ensures .1) (c .if2 .left))
 
 add-t26 : tie.Need-add-t26 Inv-loop μ-loop
-add-t26 c = omega (arith, c .before .before .before .before .before .before .before .pre .2)
+add-t26 c = omega (arith, c .before .before .before .before .before .before .before .before .pre .2)
 
 same-length-2 : tie.Need-same-length-2 Inv-loop μ-loop
 same-length-2 c = search needs
 
 returns-2 : tie.Need-returns-2 Inv-loop μ-loop
-returns-2 c = (part-done (c .before .before .before .before .before .before .before .args .n) (c .before .before .before .loop .inv .3), part-tells (c .before .before .before .loop .inv .4) (omega (arith, c .before .before .before .loop .inv .0, c .before .if1 .left)) (c .before .before .before .loop .inv .3 .buffered))
+returns-2 c = (part-done (c .before .before .before .before .before .before .before .before .args .n .0) (c .before .before .before .before .loop .inv .3), part-tells (c .before .before .before .before .loop .inv .4) (omega (arith, c .before .before .before .before .loop .inv .0, c .before .before .if1 .left)) (c .before .before .before .before .loop .inv .3 .buffered))
 
 pub try-part-spec : {M : Type 1} → statement M
 try-part-spec =

@@ -20,9 +20,6 @@ get32-requires c κs = search needs
 loop-holds : tie.Need-loop-holds Inv-loop μ-loop
 loop-holds c = search (wiped-none, needs)
 
-cast-wipe-one : tie.Need-cast-wipe-one Inv-loop μ-loop
-cast-wipe-one c = search needs
-
 wipe-one-requires : tie.Need-wipe-one-requires Inv-loop μ-loop
 wipe-one-requires c κs = search (trial-room, needs)
 
@@ -52,7 +49,6 @@ end-trial-spec =
     μ-loop
     get32-requires
     loop-holds
-    cast-wipe-one
     wipe-one-requires
     add-i
     loop-less

@@ -37,8 +37,8 @@ repoint-requires c κs = search needs
 put-view-requires-2 : tie.Need-put-view-requires-2
 put-view-requires-2 c κs = search (copyable-put, needs)
 
-add-result : tie.Need-add-result
-add-result c = search (copyable-fits, needs)
+add-t23 : tie.Need-add-t23
+add-t23 c = record { fits = copyable-fits (c .before .before .before .before .before .before .before .before .before .before .before .before .before .before .before .before .before .before .before .before .pre) (c .before .before .before .before .before .before .before .before .before .before .before .before .before .view-at .ensures) (c .before .before .before .before .before .before .before .before .before .before .before .if1 .left) }
 
 same-length-2 : tie.Need-same-length-2
 same-length-2 c = search needs
@@ -64,7 +64,7 @@ append-view-spec =
     carry-view-requires
     repoint-requires
     put-view-requires-2
-    add-result
+    add-t23
     same-length-2
     same-length-3
     returns-2)

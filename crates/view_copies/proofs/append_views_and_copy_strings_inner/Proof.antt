@@ -9,10 +9,10 @@ use Rattle.view_copies.proofs.append_views_and_copy_strings_inner.State
 use Rattle.view_copies.proofs.append_views_and_copy_strings_inner.Tie as tie
 
 abbrev Inv-loop : tie.InvT-loop
-Inv-loop slots₀ pool₀ books body j n filled so-far₀ i₀ slots pool so-far i = (i ≤ n) × (n ≤ 65536) × (length slots ≡ length slots₀) × (length pool ≡ length pool₀) × CopiedTo books body slots₀ pool₀ j filled i so-far slots pool
+Inv-loop slots₀ pool₀ books body j n filled i₀ slots pool so-far i = (i ≤ n .0) × (n .0 ≤ 65536) × (length slots ≡ length slots₀) × (length pool ≡ length pool₀) × CopiedTo books body slots₀ pool₀ j (filled .0) i (so-far .0) slots pool
 
 abbrev μ-loop : tie.MeasureT-loop
-μ-loop slots₀ pool₀ books body j n filled so-far₀ i₀ slots pool so-far i = n - i
+μ-loop slots₀ pool₀ books body j n filled i₀ slots pool so-far i = n .0 - i
 
 loop-holds : tie.Need-loop-holds Inv-loop μ-loop
 loop-holds c = search (copied-none, needs)

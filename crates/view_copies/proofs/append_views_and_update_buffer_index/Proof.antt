@@ -8,10 +8,10 @@ use Rattle.view_copies.proofs.append_views_and_update_buffer_index.Stat
 use Rattle.view_copies.proofs.append_views_and_update_buffer_index.Tie as tie
 
 abbrev Inv-loop : tie.InvT-loop
-Inv-loop slots₀ to body from n k i₀ slots i = (i ≤ n) × (n ≤ 65536) × (length slots ≡ length slots₀) × Raising slots₀ body to from k i slots
+Inv-loop slots₀ to body from n k i₀ slots i = (i ≤ n .0) × (n .0 ≤ 65536) × (length slots ≡ length slots₀) × Raising slots₀ body to from k i slots
 
 abbrev μ-loop : tie.MeasureT-loop
-μ-loop slots₀ to body from n k i₀ slots i = n - i
+μ-loop slots₀ to body from n k i₀ slots i = n .0 - i
 
 loop-holds : tie.Need-loop-holds Inv-loop μ-loop
 loop-holds c = search (raising-none, needs)

@@ -10,6 +10,9 @@ source-place-requires c κs = search needs
 cast-to : tie.Need-cast-to
 cast-to c = search needs
 
+cast-to-2 : tie.Need-cast-to-2
+cast-to-2 c = search needs
+
 add-to : tie.Need-add-to
 add-to c = search needs
 
@@ -28,4 +31,12 @@ returns c = search (carry-is, needs)
 pub carry-view-spec : {M : Type 1} → statement M
 carry-view-spec =
     tie.close
-    (tie.spec source-place-requires cast-to add-to cast-carry carry-requires same-length returns)
+    (tie.spec
+    source-place-requires
+    cast-to
+    cast-to-2
+    add-to
+    cast-carry
+    carry-requires
+    same-length
+    returns)

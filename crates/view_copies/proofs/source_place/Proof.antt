@@ -17,9 +17,6 @@ add-get32 c = search needs
 get32-requires : tie.Need-get32-requires
 get32-requires c κs = search (entered-listed, needs)
 
-cast-entry-at : tie.Need-cast-entry-at
-cast-entry-at c = search needs
-
 entry-at-requires : tie.Need-entry-at-requires
 entry-at-requires c κs = search (entered-room, needs)
 
@@ -43,7 +40,6 @@ source-place-spec =
     mul-get32
     add-get32
     get32-requires
-    cast-entry-at
     entry-at-requires
     cast-result
     cast-result-2

@@ -11,7 +11,7 @@ use Rattle.whole.proofs.copy_columns.Statement.{statement}
 use Rattle.whole.proofs.copy_columns.Tie as tie
 
 abbrev Inv-loop : tie.InvT-loop
-Inv-loop s slots₀ books₀ records body rows place₀ c₀ slots books place c = (c ≤ s .columns) × (s .columns ≤ 16) × (length slots ≡ length slots₀) × (length books ≡ length books₀) × (place ≡ valuesPlace s (s .place) c) × (LaidTo s slots₀ books₀ (batch rows records body) c slots books)
+Inv-loop s slots₀ books₀ records body rows place₀ c₀ slots books place c = (c ≤ s .columns) × (s .columns ≤ 16) × (length slots ≡ length slots₀) × (length books ≡ length books₀) × (place ≡ valuesPlace s (s .place) c) × (LaidTo s slots₀ books₀ (batch (rows .0) records body) c slots books)
 
 abbrev μ-loop : tie.MeasureT-loop
 μ-loop s slots₀ books₀ records body rows place₀ c₀ slots books place c = s .columns - c
