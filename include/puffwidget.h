@@ -111,6 +111,16 @@ uint32_t pw_read_row(
     uint32_t column, uint32_t row,
     uint8_t *out, size_t out_len);
 
+/* The front batch whole: its rows in the lower half of the answer; in out, of 512 bytes, 32 for each column: where its values, its
+ * bitmap and its list begin in slots (8 bytes each, low first), how many numbers the list has, and the bytes of a row (4 bytes each).
+ * The refusal in the upper half, and out as it was: 13 where nothing is queued, 1 where out is not of 512 bytes. */
+uint64_t pw_front_batch(
+    const uint8_t *state, size_t state_len,
+    const uint8_t *slots, size_t slots_len,
+    const uint8_t *pool, size_t pool_len,
+    const uint8_t *books, size_t books_len,
+    uint8_t *out, size_t out_len);
+
 /* The limit, none where set is 0: 0, or 1 where state is not of 304 bytes. */
 uint32_t pw_set_biggest_coalesce_batch_size(
     uint8_t *state, size_t state_len,

@@ -1,8 +1,7 @@
 //! The front batch: where its columns stand in lent memory, and its bytes copied out, one pass a column.
 
 use crate::completed::{CompletedBatch, CompletedColumn};
-use crate::layout::{Reader, word};
-use crate::memory::split;
+use crate::layout::word;
 use crate::{Kind, Memory, Refusal};
 use std::collections::HashMap;
 use std::ops::Range;
@@ -16,25 +15,6 @@ struct Place {
     width: usize,
 }
 
-/// The front batch told in bytes, by the layout: the refusal in the upper 32 bits (13 where nothing is queued) or the rows in the lower; in
-/// `out`, for column c at 32 x c, the places in the slots of its values, its bitmap and its list (u64), its list length and its width.
-/// The one function that knows where a batch stands.
-fn front_batch(memory: &Memory, out: &mut [u8; 512]) -> u64 {
-    let reader = Reader::new(memory);
-    if reader.queued() == 0 {
-        return u64::from(Refusal::NotThere.number()) << 32;
-    }
-    let slot = reader.queued_slot(0);
-    for ((c, kind), told) in reader.kinds().iter().enumerate().zip(out.chunks_exact_mut(32)) {
-        let counts = reader.listed(slot, c) as u64 | (kind.width() as u64) << 32;
-        let [values, bitmap, list] = reader.column_places(slot, c).map(|place| place as u64);
-        for (place, number) in told.chunks_exact_mut(8).zip([values, bitmap, list, counts]) {
-            place.copy_from_slice(&number.to_le_bytes());
-        }
-    }
-    reader.rows_in(slot) as u64
-}
-
 /// The place of a column, of the 32 bytes that tell it.
 fn place(told: &[u8]) -> Place {
     let at = |i: usize| word(told, 4 * i) as usize;
@@ -45,8 +25,7 @@ fn place(told: &[u8]) -> Place {
 /// The front batch, copied, if there is one.
 pub(crate) fn read(memory: &Memory, kinds: &[Kind]) -> Result<Option<CompletedBatch>, Refusal> {
     let mut out = [0; 512];
-    let answer = front_batch(memory, &mut out);
-    let rows = match split(answer).map_err(Refusal::of) {
+    let rows = match memory.front_batch(&mut out).map_err(Refusal::of) {
         Err(Refusal::NotThere) => return Ok(None),
         rows => rows? as usize,
     };

@@ -72,7 +72,7 @@ fn zeros(bytes: usize) -> Result<Vec<u8>, Error> {
 }
 
 /// The refusal in the upper 32 bits, or the value in the lower.
-pub(crate) fn split(answer: u64) -> Result<u32, u32> {
+fn split(answer: u64) -> Result<u32, u32> {
     match (answer >> 32) as u32 {
         0 => Ok(answer as u32),
         number => Err(number),
@@ -147,6 +147,12 @@ impl Memory {
             pw_read_buffer, self, [state as_ptr, slots as_ptr, pool as_ptr, books as_ptr],
             buffer, out.as_mut_ptr(), out.len()
         )
+    }
+
+    /// The rows of the front batch; in `out`, for column c at 32 x c, the places in the slots of its values, its bitmap and its list (u64 each),
+    /// its list length and the bytes of a row (u32 each). 13 where nothing is queued.
+    pub fn front_batch(&self, out: &mut [u8; 512]) -> Result<u32, u32> {
+        split(call!(pw_front_batch, self, [state as_ptr, slots as_ptr, pool as_ptr, books as_ptr], out.as_mut_ptr(), out.len()))
     }
 
     /// What a row of the front batch is and where it stands.

@@ -124,6 +124,19 @@ unsafe extern "C" {
         out: *mut u8,
         out_len: usize,
     ) -> u32;
+    #[rustfmt::skip]
+    pub fn pw_front_batch(
+        state: *const u8,
+        state_len: usize,
+        slots: *const u8,
+        slots_len: usize,
+        pool: *const u8,
+        pool_len: usize,
+        books: *const u8,
+        books_len: usize,
+        out: *mut u8,
+        out_len: usize,
+    ) -> u64;
     pub fn pw_set_biggest_coalesce_batch_size(state: *mut u8, state_len: usize, set: u32, rows: u32) -> u32;
     pub fn pw_biggest_coalesce_batch_size(state: *const u8, state_len: usize) -> u64;
     pub fn pw_get_buffered_rows(state: *const u8, state_len: usize) -> u32;

@@ -8,7 +8,9 @@ use Rattle.words.specs.Run.{lay}
 use Rattle.state.specs.World.{World}
 use Rattle.rules.specs.Calls.{readRow, rowRefusal, bufferNumberCall, bufferCall, limitOf, bufferedCount, hasCompleted, isEmpty}
 use Rattle.crossing.specs.Cross.{limitPair, rowBytes}
-use Rattle.capi.specs.Api.{Memory, memory}
+use Rattle.fronts.specs.Front.{frontCall}
+use Rattle.capi.specs.Api.{Memory, memory, told}
+use Rattle.capi_front.specs.Front.{frontTold}
 use Rattle.history.specs.Call.{read}
 use Rattle.promise.specs.OnBytes.{HoldsWorld, Sent}
 
@@ -23,6 +25,11 @@ pub record ReadsBuffer (m : Memory) (i : ℕ) (out : List ℕ) (r : ℕ) (out′
   pub sent : Sent m read r m
   pub length-is : (w : World) → HoldsWorld m w → r ≡ length (bufferCall w i)
   pub bytes-are : (w : World) → HoldsWorld m w → out′ ≡ lay 0 (bufferCall w i) out
+
+-- pw_front_batch: the rows and the places of the front batch, in 512 bytes
+pub record ReadsFront (m : Memory) (out : List ℕ) (r : ℕ) (out′ : List ℕ) : Type 0 where
+  pub sent : Sent m read r m
+  pub is : (w : World) → HoldsWorld m w → told r out′ ≡ frontTold (frontCall w out)
 
 -- pw_buffer_refusal
 pub record ReadsRefusal (m : Memory) (i r : ℕ) : Type 0 where

@@ -13,9 +13,11 @@ use Rattle.rules.specs.Calls.{Wanted, readRow, rowRefusal, bufferNumberCall, bu
 use Rattle.codes.specs.Code.{decoded}
 use Rattle.crossing.specs.Cross.{limitPair, rowBytes}
 use Rattle.capi.specs.Api.{Memory, memory, said, Told, told, number, both, pushing, finishing, dropping, registering, lettingGo, worldIn, called, created, bufferNumber, partIn, bufferRead, rowIn, rowRead, limitSet, limitRead, rowsBuffered, completedFlag, emptyFlag}
+use Rattle.fronts.specs.Front.{frontCall}
+use Rattle.capi_front.specs.Front.{frontTold, frontRead}
 use Rattle.history.specs.Call.{finish, drop, register, letGo, read}
 use Rattle.promise.specs.OnBytes.{HoldsWorld, Sent, sent-push, sent-finish, sent-drop, sent-register, sent-let-go, sent-limit, sent-read, SentPush, SentLimit, SentNew}
-use Rattle.sent.specs.Reads.{ReadsRow, ReadsBuffer, ReadsRefusal, ReadsState, ReadsLimit, ReadsRows, ReadsCompleted, ReadsEmpty}
+use Rattle.sent.specs.Reads.{ReadsRow, ReadsBuffer, ReadsFront, ReadsRefusal, ReadsState, ReadsLimit, ReadsRows, ReadsCompleted, ReadsEmpty}
 
 -- ---- calls that change memory
 
@@ -65,6 +67,16 @@ buffer-sent i out p is =
       sent = sent-read is;
       length-is = λ w h. ap (λ (t : Told). t .answer) (part-told h i out p);
       bytes-are = λ w h. ap (λ (t : Told). t .bytes) (part-told h i out p);
+    }
+
+pub front-sent : {m : Memory} (out : List ℕ) {r : ℕ} {out′ : List ℕ} → told r out′ ≡ frontRead m out → Bytes (m .state) → ReadsFront m out r out′
+unfolding frontRead
+front-sent {m} out {r} {out′} p is =
+    record {
+      sent = sent-read is;
+      is = λ w h.
+          let q : told r out′ ≡ frontTold (frontCall (worldIn m) out) = rw (eq-eqb (decoded (m .state) .number) 0 (h .coded)) at p in
+          q ∙ ap (λ (v : World). frontTold (frontCall v out)) (h .is);
     }
 
 pub refusal-sent : {m : Memory} (i : ℕ) {r : ℕ} → r ≡ bufferNumber m i → Bytes (m .state) → ReadsRefusal m i r

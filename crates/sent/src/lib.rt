@@ -5,7 +5,7 @@ ghost use Rattle.rules.specs.Batch.{batch};
 ghost use Rattle.capi.specs.Api.{memory, askedFor};
 ghost use Rattle.history.specs.Call.{finish, drop, register, letGo};
 ghost use Rattle.promise.specs.OnBytes.{Sent, SentPush, SentLimit, SentNew};
-ghost use Rattle.sent.specs.Reads.{ReadsRow, ReadsBuffer, ReadsRefusal, ReadsLimit, ReadsRows, ReadsCompleted, ReadsEmpty};
+ghost use Rattle.sent.specs.Reads.{ReadsRow, ReadsBuffer, ReadsFront, ReadsRefusal, ReadsLimit, ReadsRows, ReadsCompleted, ReadsEmpty};
 
 // ---- calls that change memory
 
@@ -128,6 +128,12 @@ pub fn read_buffer(
     ensures { λ r. ⌜ ReadsBuffer (memory (now (state .entry)) (now (slots .entry)) (now (pool .entry)) (now (books .entry))) buffer (now (out .entry)) r (now (out .exit)) ⌝ }
 {
     capi_reads::pw_read_buffer(state, slots, pool, books, buffer, out)
+}
+
+pub fn front_batch(state: &[u8], slots: &[u8], pool: &[u8], books: &[u8], out: &mut [u8]) -> u64
+    ensures { λ r. ⌜ ReadsFront (memory (now (state .entry)) (now (slots .entry)) (now (pool .entry)) (now (books .entry))) (now (out .entry)) r (now (out .exit)) ⌝ }
+{
+    capi_front::pw_front_batch(state, slots, pool, books, out)
 }
 
 pub fn buffer_refusal(state: &[u8], slots: &[u8], pool: &[u8], books: &[u8], buffer: u32) -> u32
