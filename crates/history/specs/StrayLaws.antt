@@ -23,11 +23,12 @@ use Rattle.history.specs.Stray.{refusal, Turn, on, astray, Turns, none, 
 abbrev nothing : World → Did
 nothing w = record { world = w; accepted = []; taken = [] }
 
-not-accepted : (n : ℕ) (rows : List Row) → n ≢ 0 → ifDone n rows ≡ []
+-- a refused push accepts nothing, a refused drop takes nothing
+pub not-accepted : (n : ℕ) (rows : List Row) → n ≢ 0 → ifDone n rows ≡ []
 not-accepted zero rows h = absurd (h refl)
 not-accepted (suc n) rows h = refl
 
-none-taken : (w : World) (n : ℕ) (b : Bool) → n ≢ 0 → front w n b ≡ []
+pub none-taken : (w : World) (n : ℕ) (b : Bool) → n ≢ 0 → front w n b ≡ []
 none-taken w zero b h = absurd (h refl)
 none-taken w (suc n) b h = refl
 
@@ -45,7 +46,7 @@ refused-nothing w read h = absurd (h refl)
 -- ---- a history
 
 -- a call, and what was done behind it
-abbrev behind : Did → Did → Did
+abbrev pub behind : Did → Did → Did
 behind x y = record { world = y .world; accepted = x .accepted ++ y .accepted; taken = x .taken ++ y .taken }
 
 as-if : {w : World} {x : Did} → Turns w x → (u : World) → u ≡ w → (cs : List Call) × (x ≡ run u cs)

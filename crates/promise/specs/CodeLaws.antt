@@ -20,7 +20,7 @@ use Rattle.invariant.specs.Calls.Tested.{between-tested}
 use Rattle.history.specs.Call.{Call, push, finish, drop, register, letGo, limit, read, Did, ifDone, front, step, run}
 use Rattle.history.specs.History.{did, all, in-order, below-target}
 use Rattle.history.specs.Stray.{refusal}
-use Rattle.history.specs.StrayLaws.{refused-nothing}
+use Rattle.history.specs.StrayLaws.{refused-nothing, behind}
 use Rattle.promise.specs.Code.{Made, by-push, by-finish, by-drop, by-register, by-let-go, by-limit, by-read, Makes, none, next, astray}
 
 -- ---- one call
@@ -64,10 +64,6 @@ pub made-nothing : (w : World) (c : Call) {n : ℕ} {x : Did} → Made w c n x �
 made-nothing w c m d = made-is w c m ∙ refused-nothing w c (λ z. d (made-number w c m ∙ z))
 
 -- ---- a history
-
--- a call, and what was done behind it
-abbrev behind : Did → Did → Did
-behind x y = record { world = y .world; accepted = x .accepted ++ y .accepted; taken = x .taken ++ y .taken }
 
 pub makes-is : {w : World} {cs : List Call} {x : Did} → Makes w cs x → (u : World) → u ≡ w → x ≡ run u cs
 unfolding run

@@ -1,5 +1,5 @@
 -- Demand 1 on bytes: a refused call of the C layer changes no byte that it is lent, whatever bytes those are.
-use Prim.Native.Nat.{ℕ, zero, suc, _+_, _*_, _/_, _≤_, _<_, _^_}
+use Prim.Native.Nat.{ℕ, _+_, _*_, _/_, _≤_, _<_, _^_}
 use mathlib.Core.Path.{_≡_, refl, sym, _∙_, ap}
 use mathlib.Core.Logic.{_≢_}
 use mathlib.Core.Bool.{Bool, true, false, cond}
@@ -17,7 +17,7 @@ use Rattle.state.specs.declared.RowAnswer.{RowAnswer}
 use Rattle.state.specs.World.{World, world}
 use Rattle.state.specs.Layout.{rowsIn}
 use Rattle.state.specs.SlotLaws.{queued-in}
-use Rattle.state.specs.Rows.{Row, frontSlot}
+use Rattle.state.specs.Rows.{frontSlot}
 use Rattle.rules.specs.Ranges.{tested}
 use Rattle.rules.specs.Calls.{RegisterAnswer, Dropped, dropCall, registerCall, rowRefusal}
 use Rattle.rules.specs.CallLaws.{drop-tested, drop-empty, drop-front}
@@ -27,7 +27,8 @@ use Rattle.codes.specs.Code.{stateBytes, limitIn, limited, decoded}
 use Rattle.crossing.specs.Cross.{pair, numberIn, rowBytes}
 use Rattle.capi.specs.Api.{Memory, memory, Said, said, Told, told, Form, number, both, Given, pushing, finishing, dropping, registering, lettingGo, worldIn, called, rowIn, rowRead, limitSet}
 use Rattle.capi.specs.QuietLaws.{numberOf, valueOf, Quiet, answer-number, answer-both, refused-nothing, pushing-quiet, finishing-quiet, dropping-quiet, registering-quiet, letting-go-quiet}
-use Rattle.history.specs.Call.{Call, push, finish, drop, register, letGo, limit, read, ifDone, front}
+use Rattle.history.specs.Call.{Call, push, finish, drop, register, letGo, limit, read}
+use Rattle.history.specs.StrayLaws.{not-accepted, none-taken}
 use Rattle.promise.specs.OnBytes.{Sent, sent-push, sent-finish, sent-drop, sent-register, sent-let-go, sent-limit, sent-read, upper, acceptedBy, takenBy, refusedBy}
 
 -- ---- the second number of an answer that has two: it fits a word, in every world
@@ -116,14 +117,6 @@ sent-nothing m (limit l) (sent-limit flag rows p is) h =
 sent-nothing m read (sent-read is) h = absurd (h refl)
 
 -- its answer tells of no row and no batch
-not-accepted : (n : ℕ) (rows : List Row) → n ≢ 0 → ifDone n rows ≡ []
-not-accepted zero rows h = absurd (h refl)
-not-accepted (suc n) rows h = refl
-
-none-taken : (w : World) (n : ℕ) (b : Bool) → n ≢ 0 → front w n b ≡ []
-none-taken w zero b h = absurd (h refl)
-none-taken w (suc n) b h = refl
-
 pub nothing-accepted : (m : Memory) (c : Call) (r : ℕ) → refusedBy c r ≢ 0 → acceptedBy m c r ≡ []
 nothing-accepted m (push b bytes) r h = not-accepted r _ h
 nothing-accepted m finish r h = refl
