@@ -97,7 +97,7 @@ def open_blocks(x):
         fresh()
         x.poke(0, at, number)
         x.let_go(7)
-    x.note('-- 14 in the steps of a push: a block under a free number whose entry is not zero (start, capacity, length), which stays; 11 and 12 come first')
+    x.note('-- 14 in the steps of a push: a block under a free number whose entry is not zero (start, capacity, length), which stays; 12 comes first, and 11 where no number is free')
     one = (column(views(data, [(0, 20)]), listed=[0]),)
     for at in (0, 4, 8, None):
         x.set_up(t=4, n=3, b=1)
