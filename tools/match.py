@@ -39,13 +39,13 @@ def columns_of(rows, first, number):
 
 def table():
     """The match as the strip gets it: four rows at once; a batch over five rows with nothing buffered goes whole."""
-    out = ['rows the strip takes at once: 4', 'row  side   event   player']
-    beside = ' ' * 40
+    out = ['rows the strip takes at once: 4', ' ' * 17 + 'row  side   event   player']
+    beside = ' ' * 57
     at, buffered = 0, []
 
     def take(rows):
         for number, (side, event, player) in rows:
-            out.append('%3d  %s  %s  %s' % (number, ('home ', 'away ')[side - 1], ('out   ', 'revive')[event - 1], player or '-'))
+            out.append('%20d  %s  %s  %s' % (number, ('home ', 'away ')[side - 1], ('out   ', 'revive')[event - 1], player or '-'))
         out.append('---- rows to the strip: %d' % len(rows))
 
     for size in BATCHES:

@@ -1,9 +1,18 @@
-// Reads a capture: a list of calls, each behind a small header (docs/HOST.md has the layout). And the few words that programs which play one
-// write with.
+// Reads a capture: a list of calls, each behind a small header (docs/HOST.md has the layout). Input that is not one ends it with a line on
+// standard error that says which call and why: no call is made of bytes that did not come.
+mod faults;
+mod text;
+
+pub use faults::lends_too_much;
+pub use faults::other_columns;
+pub use faults::output_ends;
+pub use text::end_line;
+pub use text::say;
+pub use text::show;
+pub use text::write;
 ghost use mathlib.Core.Path.{_≡_};
 ghost use lib.ListN.{length};
 use libc::STDIN_FILENO;
-use libc::STDOUT_FILENO;
 
 // How many bytes of each memory are lent.
 pub struct Lent {
@@ -84,9 +93,9 @@ fn bare(more: bool, what: u32) -> Fetched {
     }
 }
 
-// No more call: one that lends no memory and does nothing else.
-fn the_end() -> Fetched {
-    bare(false, 13)
+// No more call: a text of no bytes in its place.
+pub fn the_end() -> Fetched {
+    bare(false, 99)
 }
 
 // A drop of the front batch, as a capture would have it.
@@ -94,52 +103,47 @@ pub fn a_drop() -> Fetched {
     bare(true, 6)
 }
 
-// The next call of the capture on standard input, its two runs in `bytes`, one behind the other.
-pub fn fetch(bytes: &mut [u8]) -> Fetched {
+// Call `number` of the capture on standard input, the first 1: its two runs in `bytes`, one behind the other. None at the end of the input,
+// and none where it is not a whole call that this program has room for: that is told.
+pub fn fetch(number: u64, bytes: &mut [u8]) -> Fetched {
     let mut header = [0u8; 48];
     let got = io::read_full(STDIN_FILENO, &mut header);
-    if got < 48 {
-        the_end()
+    if got == 48 {
+        fetch_runs(number, &header, bytes)
     } else {
-        fetch_runs(&header, bytes)
+        faults::ended(number, got);
+        the_end()
     }
 }
 
-// The runs behind a header; there is no more call where they do not fit.
-fn fetch_runs(header: &[u8], bytes: &mut [u8]) -> Fetched
+// The runs behind a header.
+fn fetch_runs(number: u64, header: &[u8], bytes: &mut [u8]) -> Fetched
     requires { ⌜ length (now header) ≡ 48 ⌝ }
 {
     let call = call_at(header);
     let first = words::get32(header, 36) as usize;
     let second = words::get32(header, 40) as usize;
-    if read_front(bytes, first + second) {
-        Fetched {
-            more: true,
-            call,
-            first,
-            second,
-        }
-    } else {
-        the_end()
+    if faults::of_no_kind(number, call.what) {
+        return the_end();
+    }
+    if faults::brings_too_much(number, first + second, bytes.len()) {
+        return the_end();
+    }
+    if faults::cut_short(number, first + second, read_front(bytes, first + second)) {
+        return the_end();
+    }
+    Fetched {
+        more: true,
+        call,
+        first,
+        second,
     }
 }
 
-// Reads n bytes to the front of a memory; answers whether it has room for them.
-fn read_front(s: &mut [u8], n: usize) -> bool {
+// Reads n bytes to the front of a memory, as many as there are; answers how many came.
+fn read_front(s: &mut [u8], n: usize) -> usize {
     if n <= s.len() {
-        io::read_full(STDIN_FILENO, &mut s[0..n]);
-        return true;
+        return io::read_full(STDIN_FILENO, &mut s[0..n]);
     }
-    false
-}
-
-// Bytes written.
-pub fn write(text: &[u8]) {
-    io::write_all(STDOUT_FILENO, text);
-}
-
-// Bytes, and a number behind them.
-pub fn say(text: &[u8], number: u32) {
-    io::write_all(STDOUT_FILENO, text);
-    io::print_decimal(STDOUT_FILENO, number as u64);
+    0
 }

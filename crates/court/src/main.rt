@@ -7,5 +7,13 @@ fn main() {
     let mut pool = io::large_buffer();
     let mut books = io::large_buffer();
     let mut bytes = io::large_buffer();
-    player::play(Job::Table, &mut slots, &mut pool, &mut books, &mut bytes);
+    let mut scratch = io::large_buffer();
+    player::play(
+        Job::Table,
+        &mut slots,
+        &mut pool,
+        &mut books,
+        &mut bytes,
+        &mut scratch,
+    );
 }

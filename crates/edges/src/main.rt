@@ -2,7 +2,7 @@
 // rows of each batch that is dropped. What it must print is said by a model of document 01, written apart from this code (host/runs/model).
 use player::Job;
 
-// Room for the slots, the pool and the bytes of a call.
+// Room for the slots, the pool, a buffer, and the bytes of a call.
 fn new_memory() -> [u8; 262144] {
     [0; 262144]
 }
@@ -17,5 +17,13 @@ fn main() {
     let mut pool = new_memory();
     let mut books = new_books();
     let mut bytes = new_memory();
-    player::play(Job::Telling, &mut slots, &mut pool, &mut books, &mut bytes);
+    let mut scratch = new_memory();
+    player::play(
+        Job::Telling,
+        &mut slots,
+        &mut pool,
+        &mut books,
+        &mut bytes,
+        &mut scratch,
+    );
 }

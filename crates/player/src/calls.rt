@@ -39,6 +39,11 @@ pub fn make(
     }
 }
 
+// The rows buffered.
+pub fn buffered(state: &[u8]) -> u32 {
+    capi_state::pw_get_buffered_rows(state)
+}
+
 // 1 where a batch is queued, else 0.
 pub fn completed(state: &[u8]) -> u32 {
     capi_state::pw_has_completed_batch(state)
@@ -47,7 +52,7 @@ pub fn completed(state: &[u8]) -> u32 {
 // What the state says; the batches queued stand in its word 10.
 pub fn counts(state: &[u8]) -> Counts {
     Counts {
-        buffered: capi_state::pw_get_buffered_rows(state),
+        buffered: buffered(state),
         queued: answers::word_at(state, 40),
         completed: completed(state),
         empty: capi_state::pw_is_empty(state),
@@ -90,21 +95,26 @@ pub fn buffer(
     refused(refusal) + size % 4294967296
 }
 
-// A cell of the front batch, and where it is in a buffer the buffer's first bytes in `out`.
-pub fn cell(
+// A cell of the front batch.
+pub fn cell(state: &[u8], slots: &[u8], pool: &[u8], books: &[u8], column: u32, row: u32) -> Cell {
+    let mut five = [0u8; 20];
+    let refusal = capi_reads::pw_read_row(state, slots, pool, books, column, row, &mut five);
+    answers::cell_in(refusal, &five)
+}
+
+// The bytes of the buffer that a cell is in, copied to `out`, as many as it has; of any other cell none.
+pub fn buffer_of<'a>(
     state: &[u8],
     slots: &[u8],
     pool: &[u8],
     books: &[u8],
-    column: u32,
-    row: u32,
-    out: &mut [u8],
-) -> Cell {
-    let mut five = [0u8; 20];
-    let refusal = capi_reads::pw_read_row(state, slots, pool, books, column, row, &mut five);
-    let found = answers::cell_in(refusal, &five);
-    if found.kind == 2 {
-        buffer(state, slots, pool, books, found.place, out);
+    cell: Cell,
+    out: &'a mut [u8],
+) -> &'a [u8] {
+    if cell.kind == 2 {
+        let size = capi_reads::pw_read_buffer(state, slots, pool, books, cell.place, out);
+        answers::part(out, 0, size as usize)
+    } else {
+        answers::part(out, 0, 0)
     }
-    found
 }

@@ -1,12 +1,15 @@
 // Plays the capture on standard input: the loop over its calls, for every program that plays one.
 mod calls;
 mod shown;
+mod turns;
 
 ghost use Prim.Native.Nat.{_<_};
 use answers::part;
 use capture::Call;
 use capture::Fetched;
 use capture::Lent;
+use turns::Turn;
+use turns::Went;
 
 // What a program prints of the calls: the rows as a table (`court`), or a line a call (`edges`, `replay`).
 pub enum Job {
@@ -14,57 +17,104 @@ pub enum Job {
     Telling,
 }
 
-// Plays the capture on memories at least as long as it asks for, with room for the bytes of a call: call after call, until there is none. At
-// most a million, the drops of a table among them.
-pub fn play(job: Job, slots: &mut [u8], pool: &mut [u8], books: &mut [u8], bytes: &mut [u8]) {
+// Plays the capture, call after call, until there is none, or one that these memories have no room for: that is told. `scratch` is for a
+// buffer's bytes, which are read whole, and so as long as the pool.
+pub fn play(
+    job: Job,
+    slots: &mut [u8],
+    pool: &mut [u8],
+    books: &mut [u8],
+    bytes: &mut [u8],
+    scratch: &mut [u8],
+) {
     let mut state = [0u8; codes::STATE_BYTES];
-    let mut lent = Lent {
-        slots: 0,
-        pool: 0,
-        books: 0,
+    let room = Lent {
+        slots: slots.len(),
+        pool: least(pool.len(), scratch.len()),
+        books: books.len(),
     };
-    let mut left: u32 = 1000000;
+    let mut turn = turns::first();
+    let mut left: u64 = 18446744073709551615;
     while 0 < left {
-        let f = next_call(job, &state, bytes);
-        lent = capture::lent_after(lent, f);
-        one_call(job, &mut state, slots, pool, books, bytes, f, lent);
-        left = turns_left(left, f.more);
+        turn = one_turn(
+            job,
+            turn,
+            room,
+            &mut state,
+            slots,
+            pool,
+            books,
+            bytes,
+            scratch,
+        );
+        left = turns_left(left, turn.more);
     }
+    last_line(job, &state);
 }
 
-// One turn less, or none where there is no more call.
-fn turns_left(left: u32, more: bool) -> u32
+// One turn less, of more than any capture has calls; none where there is no more call.
+fn turns_left(left: u64, more: bool) -> u64
     requires { ⌜ 0 < left ⌝ }
     ensures { λ r. ⌜ r < left ⌝ }
 {
     if more { left - 1 } else { 0 }
 }
 
-// The next call to make: of a table's, a drop wherever a batch is complete; else the next of the capture.
-fn next_call(job: Job, state: &[u8], bytes: &mut [u8]) -> Fetched {
+// One turn: the next call is read and made.
+fn one_turn(
+    job: Job,
+    turn: Turn,
+    room: Lent,
+    state: &mut [u8],
+    slots: &mut [u8],
+    pool: &mut [u8],
+    books: &mut [u8],
+    bytes: &mut [u8],
+    scratch: &mut [u8],
+) -> Turn {
+    let ours = takes(job, turn.stuck, state);
+    let f = next_call(job, ours, turn.number, room, bytes);
+    let lent = capture::lent_after(turn.lent, f);
+    let went = one_call(job, state, slots, pool, books, bytes, scratch, f, lent);
+    turns::after(turn, ours, lent, went)
+}
+
+// The smaller of two lengths.
+fn least(a: usize, b: usize) -> usize {
+    if a < b { a } else { b }
+}
+
+// Whether a table takes a batch now: wherever one is complete. Where that was just refused the capture goes on first.
+fn takes(job: Job, stuck: bool, state: &[u8]) -> bool {
     match job {
-        Job::Table => {
-            if calls::completed(state) == 0 {
-                heard(capture::fetch(bytes))
-            } else {
-                capture::a_drop()
-            }
-        }
-        Job::Telling => capture::fetch(bytes),
+        Job::Table => !stuck & (calls::completed(state) != 0),
+        Job::Telling => false,
     }
 }
 
-// A call as a table hears it: what is not set-up, a change of a batch or a loan of memory passes, as text would.
-fn heard(f: Fetched) -> Fetched {
-    let mut call = f.call;
-    if 7 < call.what && call.what != 13 {
-        call.what = 0;
+// The next call to make: a table's own drop of a batch, or the next of the capture.
+fn next_call(job: Job, ours: bool, number: u64, room: Lent, bytes: &mut [u8]) -> Fetched {
+    if ours {
+        return capture::a_drop();
     }
-    Fetched {
-        more: f.more,
-        call,
-        first: f.first,
-        second: f.second,
+    let f = capture::fetch(number, bytes);
+    if turns::has_room(number, room, f) {
+        heard(job, number, f, part(bytes, 0, f.first))
+    } else {
+        capture::the_end()
+    }
+}
+
+// A call as a program hears it. A table's are set-up with a match's columns, changes of a batch and loans of memory; others pass, as text would.
+fn heard(job: Job, number: u64, f: Fetched, first: &[u8]) -> Fetched {
+    match job {
+        Job::Table => {
+            if f.call.what == 1 {
+                return turns::of_a_match(number, f, first);
+            }
+            turns::no_test(f)
+        }
+        Job::Telling => f,
     }
 }
 
@@ -76,17 +126,22 @@ fn one_call(
     pool: &mut [u8],
     books: &mut [u8],
     bytes: &[u8],
+    scratch: &mut [u8],
     f: Fetched,
     lent: Lent,
-) {
+) -> Went {
+    if !f.more {
+        return turns::over();
+    }
     let x = f.call;
     let second = part(bytes, f.first, f.second);
     let s = front(slots, lent.slots);
     let p = front(pool, lent.pool);
     let k = front(books, lent.books);
-    shown::look(job, state, s, p, k, x);
+    let looked = shown::look(job, state, s, p, k, scratch, x);
     let answer = calls::make(state, s, p, k, part(bytes, 0, f.first), second, x);
-    tell(job, x, second, answer, state);
+    let told = tell(job, x, second, answer, state);
+    turns::made(looked & told, answer)
 }
 
 // The first n bytes of a memory, or all where there are fewer.
@@ -97,11 +152,23 @@ fn front(s: &mut [u8], n: usize) -> &mut [u8] {
     s
 }
 
-// A call that was made, told with what the state then says.
-fn tell(job: Job, x: Call, second: &[u8], answer: u64, state: &[u8]) {
+// A call that was made, told with what the state then says; whether that could be written.
+fn tell(job: Job, x: Call, second: &[u8], answer: u64, state: &[u8]) -> bool {
     let told = answers::answer_in(answer);
     match job {
         Job::Table => table::line(x, told),
         Job::Telling => telling::line(x, second, told, calls::counts(state)),
+    }
+}
+
+// Behind the last call: a table says how many rows wait for more.
+fn last_line(job: Job, state: &[u8]) {
+    match job {
+        Job::Table => {
+            if !table::waiting(calls::buffered(state)) {
+                capture::output_ends();
+            }
+        }
+        Job::Telling => {}
     }
 }

@@ -5,35 +5,53 @@ use crate::calls;
 use answers::Cell;
 use capture::Call;
 
-// What a call reads: the rows of the batch that a drop takes; a cell, a buffer, the books, bytes of a memory.
-pub fn look(job: Job, state: &[u8], slots: &[u8], pool: &[u8], books: &[u8], x: Call) {
+// What a call reads: the rows of the batch that a drop takes; a cell, a buffer, the books, bytes of a memory. Whether its line could be
+// written; that of a drop comes later. `scratch` is for a buffer's bytes.
+pub fn look(
+    job: Job,
+    state: &[u8],
+    slots: &[u8],
+    pool: &[u8],
+    books: &[u8],
+    scratch: &mut [u8],
+    x: Call,
+) -> bool {
     let what = x.what;
     match what {
-        6 => show_rows(job, state, slots, pool, books),
+        6 => {
+            show_rows(job, state, slots, pool, books, scratch);
+            true
+        }
         8 => show_place(state, slots, pool, books, x.a, x.b),
         9 => show_buffer(state, slots, pool, books, x.a),
         11 => telling::show_books(books),
         14 => show_bytes(state, slots, pool, books, x),
-        _ => {}
+        _ => true,
     }
 }
 
 // Where a cell is; of its bytes none are shown.
-fn show_place(state: &[u8], slots: &[u8], pool: &[u8], books: &[u8], column: u32, row: u32) {
-    let mut bytes = [0u8; 1];
-    let cell = calls::cell(state, slots, pool, books, column, row, &mut bytes);
-    telling::place(column, row, cell);
+fn show_place(
+    state: &[u8],
+    slots: &[u8],
+    pool: &[u8],
+    books: &[u8],
+    column: u32,
+    row: u32,
+) -> bool {
+    let cell = calls::cell(state, slots, pool, books, column, row);
+    telling::place(column, row, cell)
 }
 
 // A buffer's bytes, at most 64 of them.
-fn show_buffer(state: &[u8], slots: &[u8], pool: &[u8], books: &[u8], number: u32) {
+fn show_buffer(state: &[u8], slots: &[u8], pool: &[u8], books: &[u8], number: u32) -> bool {
     let mut bytes = [0u8; 64];
     let answer = calls::buffer(state, slots, pool, books, number, &mut bytes);
-    telling::buffer(number, answers::answer_in(answer), &bytes);
+    telling::buffer(number, answers::answer_in(answer), &bytes)
 }
 
 // Bytes of one of the memories: 0 the state, 1 the slots, 2 the books, else the pool.
-fn show_bytes(state: &[u8], slots: &[u8], pool: &[u8], books: &[u8], x: Call) {
+fn show_bytes(state: &[u8], slots: &[u8], pool: &[u8], books: &[u8], x: Call) -> bool {
     let memory = x.a;
     match memory {
         0 => show_part(state, x),
@@ -44,16 +62,16 @@ fn show_bytes(state: &[u8], slots: &[u8], pool: &[u8], books: &[u8], x: Call) {
 }
 
 // Bytes of a memory as they stand, or none where they are not all there.
-fn show_part(memory: &[u8], x: Call) {
-    telling::show_bytes(x.a, x.b, answers::part(memory, x.b as usize, x.c as usize));
+fn show_part(memory: &[u8], x: Call) -> bool {
+    telling::show_bytes(x.a, x.b, answers::part(memory, x.b as usize, x.c as usize))
 }
 
 // The rows of the front batch, cell by cell: until a row is not there.
-fn show_rows(job: Job, state: &[u8], slots: &[u8], pool: &[u8], books: &[u8]) {
+fn show_rows(job: Job, state: &[u8], slots: &[u8], pool: &[u8], books: &[u8], scratch: &mut [u8]) {
     let columns = columns_of(job, state);
     let mut k: u32 = 0;
     while k < columns * 65536 {
-        k = show_cell(job, state, slots, pool, books, columns, k);
+        k = show_cell(job, state, slots, pool, books, scratch, columns, k);
     }
 }
 
@@ -74,14 +92,14 @@ fn at_most_16(n: u32) -> u32
     if n <= 16 { n } else { 16 }
 }
 
-// Cell k of the front batch, counted row by row; answers which is shown next. Of a buffer the first 65,536 bytes are read: a value that lies
-// farther back shows as one of no bytes. The captures at hand have none.
+// Cell k of the front batch, counted row by row; answers which is shown next.
 fn show_cell(
     job: Job,
     state: &[u8],
     slots: &[u8],
     pool: &[u8],
     books: &[u8],
+    scratch: &mut [u8],
     columns: u32,
     k: u32,
 ) -> u32
@@ -89,14 +107,14 @@ fn show_cell(
     ensures { λ r. ⌜ k < r ⌝ }
 {
     let column = k % columns;
-    let mut bytes = io::large_buffer();
-    let cell = calls::cell(state, slots, pool, books, column, k / columns, &mut bytes);
+    let cell = calls::cell(state, slots, pool, books, column, k / columns);
+    let buffer = calls::buffer_of(state, slots, pool, books, cell, scratch);
     tell_cell(
         job,
         column,
         columns - 1,
         cell,
-        answers::bytes_of(slots, &bytes, cell),
+        answers::bytes_of(slots, buffer, cell),
     );
     next_cell(columns, k, column, cell.refusal)
 }

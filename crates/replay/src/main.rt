@@ -2,7 +2,7 @@
 // rows of each batch that is dropped.
 use player::Job;
 
-// Room for the pool.
+// Room for the pool, and for a buffer.
 fn new_pool() -> [u8; 300000] {
     [0; 300000]
 }
@@ -12,5 +12,13 @@ fn main() {
     let mut pool = new_pool();
     let mut books = io::large_buffer();
     let mut bytes = io::large_buffer();
-    player::play(Job::Telling, &mut slots, &mut pool, &mut books, &mut bytes);
+    let mut scratch = new_pool();
+    player::play(
+        Job::Telling,
+        &mut slots,
+        &mut pool,
+        &mut books,
+        &mut bytes,
+        &mut scratch,
+    );
 }

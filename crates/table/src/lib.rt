@@ -1,62 +1,109 @@
 // Prints the rows of a match as a table, batch by batch, and beside it what the box does: for the program `court`. It is handed answers, and
 // sees no memory.
+ghost use Prim.Native.Nat.{_≤_};
 use answers::Answer;
 use capture::Call;
+use capture::end_line;
 use capture::say;
 use capture::write;
 use libc::STDOUT_FILENO;
 
-// The line of a call that was made, or none: set-up with the table's head, a push, the end, a batch that was taken.
-pub fn line(x: Call, answer: Answer) {
+// The kinds of a match's columns, a word each as set-up has them: UInt64, UInt8, UInt8, Utf8View.
+pub fn is_match(kinds: &[u8]) -> bool {
+    if kinds.len() == 16 {
+        (words::get32(kinds, 0) == 8)
+            & (words::get32(kinds, 4) == 5)
+            & (words::get32(kinds, 8) == 5)
+            & (words::get32(kinds, 12) == 18)
+    } else {
+        false
+    }
+}
+
+// The line of a call that was made, or none: set-up with the table's head, a push, the end, a batch that was taken; and of the other calls
+// each that is refused. Answers whether it could be written.
+pub fn line(x: Call, answer: Answer) -> bool {
     let what = x.what;
     match what {
         1 => head(x.a, answer.number),
+        2 => refused(b"the box registers a buffer", answer.number),
+        3 => refused(b"the box lets a buffer go", answer.number),
         4 => {
             beside();
             say(b"the box sends ", x.a);
-            end_line(answer.number);
+            end(answer.number)
         }
         5 => {
             beside();
             write(b"the match ends");
-            end_line(answer.number);
+            end(answer.number)
         }
-        6 => taken(answer.value),
-        _ => {}
+        6 => taken(answer),
+        7 => refused(b"the box sets the limit", answer.number),
+        _ => true,
     }
 }
 
+// Rows that were sent and wait for more when a capture is over.
+pub fn waiting(rows: u32) -> bool {
+    if rows == 0 {
+        return true;
+    }
+    say(b"---- rows that wait for more: ", rows);
+    end_line()
+}
+
 // Set-up, and what stands above the columns.
-fn head(target: u32, refusal: u32) {
+fn head(target: u32, refusal: u32) -> bool {
     say(b"rows the strip takes at once: ", target);
-    end_line(refusal);
-    write(b"row  side   event   player\n");
+    end(refusal);
+    write(b"                 row  side   event   player");
+    end_line()
 }
 
 // To the right of the table, where lines stand that say what the box does.
 fn beside() {
-    write(b"                                        ");
+    write(b"                                                         ");
+}
+
+// What the box did, where it was refused.
+fn refused(what: &[u8], refusal: u32) -> bool {
+    if refusal == 0 {
+        return true;
+    }
+    beside();
+    write(what);
+    end(refusal)
 }
 
 // The end of such a line.
-fn end_line(refusal: u32) {
+fn end(refusal: u32) -> bool {
     if refusal != 0 {
         say(b", refused ", refusal);
     }
-    write(b"\n");
+    end_line()
 }
 
-// Behind the rows of a batch; a drop that found none prints nothing.
-fn taken(rows: u32) {
-    if rows != 0 {
-        say(b"---- rows to the strip: ", rows);
-        write(b"\n");
+// Behind the rows of a batch, or a batch that could not be taken; a drop that found none prints nothing.
+fn taken(answer: Answer) -> bool {
+    if answer.number != 0 {
+        return refused(b"the strip takes a batch", answer.number);
     }
+    if answer.value == 0 {
+        return true;
+    }
+    say(b"---- rows to the strip: ", answer.value);
+    end_line()
 }
 
 // A cell of the table.
 pub fn cell(column: u32, kind: u32, bytes: &[u8]) {
-    write_cell(column, kind, bytes);
+    match column {
+        0 => write_number(kind, bytes),
+        1 => write_word(kind, bytes, b"home ", b"away ", b"-    "),
+        2 => write_word(kind, bytes, b"out   ", b"revive", b"-     "),
+        _ => write_name(kind, bytes),
+    }
     if column < 3 {
         write(b"  ");
     } else {
@@ -64,45 +111,61 @@ pub fn cell(column: u32, kind: u32, bytes: &[u8]) {
     }
 }
 
-// Column 0 has the row's number, 1 the side, 2 the event, 3 the player.
-fn write_cell(column: u32, kind: u32, bytes: &[u8]) {
+// A player's name, and `-` for none.
+fn write_name(kind: u32, bytes: &[u8]) {
     if kind == 0 {
         write(b"-");
-    } else if column == 3 {
-        write(bytes);
     } else {
-        write_value(column, number_of(bytes));
+        capture::show(bytes);
     }
 }
 
-// A number, or the word that it stands for.
-fn write_value(column: u32, value: u64) {
-    if column == 0 {
-        write_number(value);
-    } else if column == 1 {
-        pick(value, b"home ", b"away ");
-    } else {
-        pick(value, b"out   ", b"revive");
+// The words for 1 and 2, that for null, and of any other value `?` and the value.
+fn write_word(kind: u32, bytes: &[u8], one: &[u8], two: &[u8], null: &[u8]) {
+    if kind == 0 {
+        write(null);
+        return;
     }
-}
-
-// One word for 1, and another for all else.
-fn pick(value: u64, one: &[u8], other: &[u8]) {
+    let value = number_of(bytes);
     if value == 1 {
         write(one);
+    } else if value == 2 {
+        write(two);
     } else {
-        write(other);
+        write(b"?");
+        io::print_decimal(STDOUT_FILENO, value);
+        pad(null, 1 + digits(value));
     }
 }
 
-// A number right-aligned to three places.
-fn write_number(n: u64) {
-    if n < 10 {
-        write(b"  ");
-    } else if n < 100 {
-        write(b" ");
+// What a text has behind its first n bytes.
+fn pad(text: &[u8], n: usize) {
+    if n <= text.len() {
+        let end = text.len();
+        write(&text[n..end]);
     }
-    io::print_decimal(STDOUT_FILENO, n);
+}
+
+// A row's number right-aligned to the twenty places that the longest has, and `-` for none.
+fn write_number(kind: u32, bytes: &[u8]) {
+    let spaces = b"                    ";
+    if kind == 0 {
+        pad(spaces, 1);
+        write(b"-");
+    } else {
+        let n = number_of(bytes);
+        pad(spaces, digits(n));
+        io::print_decimal(STDOUT_FILENO, n);
+    }
+}
+
+// How many digits a number has.
+fn digits(n: u64) -> usize
+    ensures { λ r. ⌜ r ≤ 20 ⌝ }
+{
+    let mut text = [0u8; 20];
+    let count = io::decimal(n, &mut text);
+    if count <= 20 { count } else { 20 }
 }
 
 // A number of 8 bytes, or the first byte of another.

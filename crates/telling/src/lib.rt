@@ -5,30 +5,33 @@ use answers::Cell;
 use answers::Counts;
 use answers::word_at;
 use capture::Call;
+use capture::end_line;
 use capture::say;
+use capture::show;
 use capture::write;
 use libc::STDOUT_FILENO;
 
-// The line of a call that was made, with the text or the bytes that it brought. Calls that read print by the functions below.
-pub fn line(x: Call, second: &[u8], answer: Answer, counts: Counts) {
+// The line of a call that was made, with the text or the bytes that it brought; whether it could be written. Calls that read print by the
+// functions below.
+pub fn line(x: Call, second: &[u8], answer: Answer, counts: Counts) -> bool {
     let what = x.what;
     match what {
         1..=7 => {
             name(x, second.len());
             tell_answer(answer.number);
             tell_rest(what, answer, counts);
-            write(b"\n");
+            end_line()
         }
-        8 | 9 | 11..=14 => {}
+        8 | 9 | 11..=14 => true,
         10 => tell_flags(counts),
         _ => note(second),
     }
 }
 
 // A line of text.
-fn note(text: &[u8]) {
-    write(text);
-    write(b"\n");
+fn note(text: &[u8]) -> bool {
+    show(text);
+    end_line()
 }
 
 // A call's name and numbers.
@@ -116,21 +119,21 @@ fn tell_counts(counts: Counts) {
 }
 
 // The counts by themselves: rows buffered, has_completed_batch and is_empty.
-fn tell_flags(counts: Counts) {
+fn tell_flags(counts: Counts) -> bool {
     say(b"counts: buffered ", counts.buffered);
     say(b", completed ", counts.completed);
     say(b", empty ", counts.empty);
-    write(b"\n");
+    end_line()
 }
 
 // A row's answer, a line: null, or where it is.
-pub fn place(column: u32, row: u32, cell: Cell) {
+pub fn place(column: u32, row: u32, cell: Cell) -> bool {
     name_two(b"row ", row, b" of column ", column);
     tell_answer(cell.refusal);
     if cell.refusal == 0 {
         tell_place(cell);
     }
-    write(b"\n");
+    end_line()
 }
 
 // In its row, or in a buffer.
@@ -146,17 +149,18 @@ fn tell_place(cell: Cell) {
 }
 
 // A buffer's bytes, as many as were read of them, and the number beside them.
-pub fn buffer(number: u32, answer: Answer, read: &[u8]) {
+pub fn buffer(number: u32, answer: Answer, read: &[u8]) -> bool {
     name_two(b"buffer ", number, b": bytes ", answer.value);
     tell_answer(answer.number);
-    quote(front(read, answer.value as usize));
+    quote(front(read, answer.value as usize))
 }
 
 // Bytes between quotes, and the line's end.
-fn quote(bytes: &[u8]) {
+fn quote(bytes: &[u8]) -> bool {
     write(b", '");
-    write(bytes);
-    write(b"'\n");
+    show(bytes);
+    write(b"'");
+    end_line()
 }
 
 // The first n bytes, or all where there are fewer.
@@ -211,12 +215,12 @@ fn tell_byte(b: u8) {
 }
 
 // Bytes of a memory as they stand, a line: 0 the state, 1 the slots, 2 the books, else the pool.
-pub fn show_bytes(memory: u32, at: u32, bytes: &[u8]) {
+pub fn show_bytes(memory: u32, at: u32, bytes: &[u8]) -> bool {
     name_memory(memory);
     say(b" at ", at);
     write(b": ");
     tell_value(1, bytes);
-    write(b"\n");
+    end_line()
 }
 
 // A memory's name.
@@ -230,14 +234,15 @@ fn name_memory(memory: u32) {
 }
 
 // The entries of the books that are in use, as far as they are there.
-pub fn show_books(books: &[u8]) {
+pub fn show_books(books: &[u8]) -> bool {
     if books.len() < 4 {
-        return;
+        return true;
     }
     let used = word_at(books, 0);
     say(b"books: in use ", used);
-    write(b"\n");
+    let went = end_line();
     show_entries(books, least(used, (books.len() - 4) / 20));
+    went
 }
 
 // The smaller of two numbers of entries.

@@ -74,7 +74,7 @@ impl Player {
             13 => self.lend(item),
             14 => self.show(a, b as usize, c as usize),
             _ => {
-                self.said.extend_from_slice(item.second);
+                self.said.extend(lines::shown(item.second));
                 self.say("\n");
             }
         }
@@ -212,7 +212,7 @@ impl Player {
         };
         let refused = answer.as_ref().err().map_or("done".to_string(), |number| format!("refused {number}"));
         self.say(&format!("buffer {number}: bytes {}: {refused}, '", bytes.len()));
-        self.said.extend_from_slice(&bytes[..bytes.len().min(64)]);
+        self.said.extend(lines::shown(&bytes[..bytes.len().min(64)]));
         self.say("'\n");
     }
 

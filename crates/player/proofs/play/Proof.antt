@@ -6,28 +6,26 @@ use Rattle.player.proofs.play.Statement.{statement}
 use Rattle.player.proofs.play.Tie as tie
 
 abbrev Inv-loop : tie.InvT-loop
-Inv-loop job slots₀ pool₀ books₀ bytes₀ state₀ lent₀ left₀ slots pool books bytes state lent left = (length state ≡ 304) × (length slots ≡ length slots₀) × (length pool ≡ length pool₀) × (length books ≡ length books₀) × (length bytes ≡ length bytes₀)
+Inv-loop job slots₀ pool₀ books₀ bytes₀ scratch₀ state₀ room turn₀ left₀ slots pool books bytes scratch state turn left =
+    (length state ≡ 304) × (length slots ≡ length slots₀) × (length pool ≡ length pool₀) × (length books ≡ length books₀) × (length bytes ≡ length bytes₀) × (length scratch ≡ length scratch₀)
 
 abbrev μ-loop : tie.MeasureT-loop
-μ-loop job slots₀ pool₀ books₀ bytes₀ state₀ lent₀ left₀ slots pool books bytes state lent left = left
+μ-loop job slots₀ pool₀ books₀ bytes₀ scratch₀ state₀ room turn₀ left₀ slots pool books bytes scratch state turn left = left
+
+least-requires : tie.Need-least-requires Inv-loop μ-loop
+least-requires c κs = search needs
+
+first-requires : tie.Need-first-requires Inv-loop μ-loop
+first-requires c κs = search needs
 
 loop-holds : tie.Need-loop-holds Inv-loop μ-loop
 loop-holds c = search needs
 
-slice-aggregate-next-call : tie.Need-slice-aggregate-next-call Inv-loop μ-loop
-slice-aggregate-next-call c = search needs
+slice-aggregate-one-turn : tie.Need-slice-aggregate-one-turn Inv-loop μ-loop
+slice-aggregate-one-turn c = search needs
 
-next-call-requires : tie.Need-next-call-requires Inv-loop μ-loop
-next-call-requires c κs = search needs
-
-lent-after-requires : tie.Need-lent-after-requires Inv-loop μ-loop
-lent-after-requires c κs = search needs
-
-slice-aggregate-one-call : tie.Need-slice-aggregate-one-call Inv-loop μ-loop
-slice-aggregate-one-call c = search needs
-
-one-call-requires : tie.Need-one-call-requires Inv-loop μ-loop
-one-call-requires c κs = search needs
+one-turn-requires : tie.Need-one-turn-requires Inv-loop μ-loop
+one-turn-requires c κs = search needs
 
 turns-left-requires : tie.Need-turns-left-requires Inv-loop μ-loop
 turns-left-requires c κs = search needs
@@ -37,6 +35,12 @@ loop-less c = search needs
 
 loop-again : tie.Need-loop-again Inv-loop μ-loop
 loop-again c = search needs
+
+slice-aggregate-last-line : tie.Need-slice-aggregate-last-line Inv-loop μ-loop
+slice-aggregate-last-line c = search needs
+
+last-line-requires : tie.Need-last-line-requires Inv-loop μ-loop
+last-line-requires c κs = search needs
 
 same-length : tie.Need-same-length Inv-loop μ-loop
 same-length c = search needs
@@ -50,6 +54,9 @@ same-length-3 c = search needs
 same-length-4 : tie.Need-same-length-4 Inv-loop μ-loop
 same-length-4 c = search needs
 
+same-length-5 : tie.Need-same-length-5 Inv-loop μ-loop
+same-length-5 c = search needs
+
 returns : tie.Need-returns Inv-loop μ-loop
 returns c = search needs
 
@@ -59,17 +66,19 @@ play-spec =
     (tie.spec
     Inv-loop
     μ-loop
+    least-requires
+    first-requires
     loop-holds
-    slice-aggregate-next-call
-    next-call-requires
-    lent-after-requires
-    slice-aggregate-one-call
-    one-call-requires
+    slice-aggregate-one-turn
+    one-turn-requires
     turns-left-requires
     loop-less
     loop-again
+    slice-aggregate-last-line
+    last-line-requires
     same-length
     same-length-2
     same-length-3
     same-length-4
+    same-length-5
     returns)

@@ -1,14 +1,16 @@
 -- `player::shown::show_rows` meets its contract.
 use borrow.Author.Needs.{needs}
+use lib.ListN.{length}
+use mathlib.Core.Path.{_≡_}
 use Prim.Native.Nat.{_≤_, _-_, _*_}
 use Rattle.player.proofs.shown.show_rows.Statement.{statement}
 use Rattle.player.proofs.shown.show_rows.Tie as tie
 
 abbrev Inv-loop : tie.InvT-loop
-Inv-loop job state slots pool books columns k₀ k = columns ≤ 16
+Inv-loop job state slots pool books scratch₀ columns k₀ scratch k = (columns ≤ 16) × (length scratch ≡ length scratch₀)
 
 abbrev μ-loop : tie.MeasureT-loop
-μ-loop job state slots pool books columns k₀ k = columns * 65536 - k
+μ-loop job state slots pool books scratch₀ columns k₀ scratch k = columns * 65536 - k
 
 columns-of-requires : tie.Need-columns-of-requires Inv-loop μ-loop
 columns-of-requires c κs = search needs
@@ -28,6 +30,9 @@ loop-less c = search needs
 loop-again : tie.Need-loop-again Inv-loop μ-loop
 loop-again c = search needs
 
+same-length : tie.Need-same-length Inv-loop μ-loop
+same-length c = search needs
+
 returns : tie.Need-returns Inv-loop μ-loop
 returns c = search needs
 
@@ -43,4 +48,5 @@ show-rows-spec =
     show-cell-requires
     loop-less
     loop-again
+    same-length
     returns)
