@@ -1,7 +1,6 @@
 // Plays the capture on standard input: the loop over its calls, for every program that plays one.
 mod calls;
 mod shown;
-mod turns;
 
 ghost use Prim.Native.Nat.{_<_};
 use answers::part;
@@ -73,7 +72,7 @@ fn one_turn(
     scratch: &mut [u8],
 ) -> Turn {
     let ours = takes(job, turn.stuck, state);
-    let f = next_call(job, ours, turn.number, room, bytes);
+    let f = turns::next_call(is_table(job), ours, turn.number, room, bytes);
     let lent = capture::lent_after(turn.lent, f);
     let went = one_call(job, state, slots, pool, books, bytes, scratch, f, lent);
     turns::after(turn, ours, lent, went)
@@ -84,38 +83,17 @@ fn least(a: usize, b: usize) -> usize {
     if a < b { a } else { b }
 }
 
-// Whether a table takes a batch now: wherever one is complete. Where that was just refused the capture goes on first.
-fn takes(job: Job, stuck: bool, state: &[u8]) -> bool {
+// Whether a table is printed.
+fn is_table(job: Job) -> bool {
     match job {
-        Job::Table => !stuck & (calls::completed(state) != 0),
+        Job::Table => true,
         Job::Telling => false,
     }
 }
 
-// The next call to make: a table's own drop of a batch, or the next of the capture.
-fn next_call(job: Job, ours: bool, number: u64, room: Lent, bytes: &mut [u8]) -> Fetched {
-    if ours {
-        return capture::a_drop();
-    }
-    let f = capture::fetch(number, bytes);
-    if turns::has_room(number, room, f) {
-        heard(job, number, f, part(bytes, 0, f.first))
-    } else {
-        capture::the_end()
-    }
-}
-
-// A call as a program hears it. A table's are set-up with a match's columns, changes of a batch and loans of memory; others pass, as text would.
-fn heard(job: Job, number: u64, f: Fetched, first: &[u8]) -> Fetched {
-    match job {
-        Job::Table => {
-            if f.call.what == 1 {
-                return turns::of_a_match(number, f, first);
-            }
-            turns::no_test(f)
-        }
-        Job::Telling => f,
-    }
+// Whether a table takes a batch now: wherever one is complete. Where that was just refused the capture goes on first.
+fn takes(job: Job, stuck: bool, state: &[u8]) -> bool {
+    is_table(job) & !stuck & (calls::completed(state) != 0)
 }
 
 // One call, on the parts of the memories that are lent: what it reads is shown, then it is made, then told.

@@ -8,18 +8,6 @@ use capture::say;
 use capture::write;
 use libc::STDOUT_FILENO;
 
-// The kinds of a match's columns, a word each as set-up has them: UInt64, UInt8, UInt8, Utf8View.
-pub fn is_match(kinds: &[u8]) -> bool {
-    if kinds.len() == 16 {
-        (words::get32(kinds, 0) == 8)
-            & (words::get32(kinds, 4) == 5)
-            & (words::get32(kinds, 8) == 5)
-            & (words::get32(kinds, 12) == 18)
-    } else {
-        false
-    }
-}
-
 // The line of a call that was made, or none: set-up with the table's head, a push, the end, a batch that was taken; and of the other calls
 // each that is refused. Answers whether it could be written.
 pub fn line(x: Call, answer: Answer) -> bool {

@@ -1,4 +1,5 @@
-// A turn of the player: what it keeps from one call to the next, and whether a call can be played.
+// A turn of a program that plays a capture: what it keeps from one call to the next, the next call, and whether that can be played.
+use answers::part;
 use capture::Fetched;
 use capture::Lent;
 
@@ -75,7 +76,7 @@ fn next(number: u64) -> u64 {
 }
 
 // Whether there is room for the memories that a call lends; where there is not, that is told.
-pub fn has_room(number: u64, room: Lent, f: Fetched) -> bool {
+fn has_room(number: u64, room: Lent, f: Fetched) -> bool {
     let lent = capture::lent_after(none_lent(), f);
     if capture::lends_too_much(number, b"slots", lent.slots, room.slots) {
         return false;
@@ -86,9 +87,34 @@ pub fn has_room(number: u64, room: Lent, f: Fetched) -> bool {
     !capture::lends_too_much(number, b"books", lent.books, room.books)
 }
 
+// The next call to make: `ours`, a program's own drop of a batch, or the next of the capture, as the program hears it.
+pub fn next_call(of_match: bool, ours: bool, number: u64, room: Lent, bytes: &mut [u8]) -> Fetched {
+    if ours {
+        return capture::a_drop();
+    }
+    let f = capture::fetch(number, bytes);
+    if has_room(number, room, f) {
+        heard(of_match, number, f, part(bytes, 0, f.first))
+    } else {
+        capture::the_end()
+    }
+}
+
+// A call as a program hears it. That of a match hears set-up with a match's columns, changes of a batch and loans of memory; others pass, as
+// text would.
+fn heard(of_match: bool, number: u64, f: Fetched, first: &[u8]) -> Fetched {
+    if of_match {
+        if f.call.what == 1 {
+            return set_up_of_match(number, f, first);
+        }
+        return no_test(f);
+    }
+    f
+}
+
 // A set-up, where it has a match's columns; else none, and that is told.
-pub fn of_a_match(number: u64, f: Fetched, kinds: &[u8]) -> Fetched {
-    if table::is_match(kinds) {
+fn set_up_of_match(number: u64, f: Fetched, kinds: &[u8]) -> Fetched {
+    if is_match(kinds) {
         f
     } else {
         capture::other_columns(number);
@@ -97,7 +123,7 @@ pub fn of_a_match(number: u64, f: Fetched, kinds: &[u8]) -> Fetched {
 }
 
 // A call, or text in the place of one that is for tests.
-pub fn no_test(f: Fetched) -> Fetched {
+fn no_test(f: Fetched) -> Fetched {
     let mut call = f.call;
     if 7 < call.what && call.what != 13 {
         call.what = 99;
@@ -107,5 +133,17 @@ pub fn no_test(f: Fetched) -> Fetched {
         call,
         first: f.first,
         second: f.second,
+    }
+}
+
+// The kinds of a match's columns, a word each as set-up has them: UInt64, UInt8, UInt8, Utf8View.
+fn is_match(kinds: &[u8]) -> bool {
+    if kinds.len() == 16 {
+        (words::get32(kinds, 0) == 8)
+            & (words::get32(kinds, 4) == 5)
+            & (words::get32(kinds, 8) == 5)
+            & (words::get32(kinds, 12) == 18)
+    } else {
+        false
     }
 }
