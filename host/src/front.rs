@@ -1,25 +1,18 @@
-//! The front batch: where its columns stand in lent memory, and its bytes copied out, one pass a column.
+//! The front batch: where its columns stand in lent memory, and its bytes copied out into one piece of memory, one pass a column.
 
-use crate::completed::{CompletedBatch, CompletedColumn};
-use crate::layout::word;
+use crate::completed::{CompletedBatch, CompletedColumn, Taken};
+use crate::layout::{filled, word};
 use crate::{Kind, Memory, Refusal};
-use std::collections::HashMap;
 use std::ops::Range;
+use std::sync::Arc;
 
-/// Where a column of the front batch stands in the slots.
-struct Place {
-    values: usize,
-    bitmap: usize,
-    list: usize,
-    listed: usize,
-    width: usize,
-}
-
-/// The place of a column, of the 32 bytes that tell it.
-fn place(told: &[u8]) -> Place {
-    let at = |i: usize| word(told, 4 * i) as usize;
-    let long = |i: usize| at(i) | at(i + 1) << 32;
-    Place { values: long(0), bitmap: long(2), list: long(4), listed: at(6), width: at(7) }
+/// A column of the front batch, as it stands in the slots.
+struct Standing<'a> {
+    kind: Kind,
+    values: &'a [u8],
+    bitmap: &'a [u8],
+    /// a word a buffer number
+    list: &'a [u8],
 }
 
 /// The front batch, copied, if there is one.
@@ -29,53 +22,55 @@ pub(crate) fn read(memory: &Memory, kinds: &[Kind]) -> Result<Option<CompletedBa
         Err(Refusal::NotThere) => return Ok(None),
         rows => rows? as usize,
     };
-    let columns = out.chunks_exact(32).zip(kinds).map(|(told, kind)| column(memory, *kind, rows, &place(told)));
+    let standing = out.chunks_exact(32).zip(kinds).map(|(told, kind)| standing(&memory.slots, *kind, rows, told));
+    let standing: Vec<Standing> = standing.collect::<Result<_, _>>()?;
+    let taken = Arc::new(take(memory, &standing)?);
+    let (mut start, mut listed) = (0, 0);
+    let columns = standing.iter().map(|column| {
+        let (first, place) = (start, listed);
+        start += column.values.len() + column.bitmap.len();
+        listed += column.list.len() / 4;
+        CompletedColumn::of(column.kind, rows, &taken, first, place..listed).ok_or(Refusal::State)
+    });
     Ok(Some(CompletedBatch::of(rows, columns.collect::<Result<_, _>>()?)))
 }
 
-/// One column: its values, its bitmap, and the buffers of its list.
-fn column(memory: &Memory, kind: Kind, rows: usize, place: &Place) -> Result<CompletedColumn, Refusal> {
-    let values = part(&memory.slots, place.values, rows * place.width)?;
-    let bitmap = part(&memory.slots, place.bitmap, rows.div_ceil(8))?;
-    let list = part(&memory.slots, place.list, 4 * place.listed)?;
-    let (text, parts) = texts(memory, list)?;
-    CompletedColumn::of(kind, rows, values, bitmap, text, parts).ok_or(Refusal::State)
+/// A column, of the 32 bytes that tell where it stands.
+fn standing<'a>(slots: &'a [u8], kind: Kind, rows: usize, told: &[u8]) -> Result<Standing<'a>, Refusal> {
+    let at = |i: usize| word(told, 4 * i) as usize;
+    let part = |i: usize, length: usize| slots.get(at(i) | at(i + 1) << 32..).and_then(|rest| rest.get(..length)).ok_or(Refusal::State);
+    let (values, bitmap, list) = (part(0, rows * kind.width())?, part(2, rows.div_ceil(8))?, part(4, 4 * at(6))?);
+    if at(7) == kind.width() { Ok(Standing { kind, values, bitmap, list }) } else { Err(Refusal::State) }
 }
 
-/// A part of the slots.
-fn part(slots: &[u8], start: usize, length: usize) -> Result<&[u8], Refusal> {
-    slots.get(start..).and_then(|rest| rest.get(..length)).ok_or(Refusal::State)
-}
-
-/// The bytes of the buffers that a list names, each once, and where each place of the list finds its own.
-fn texts(memory: &Memory, list: &[u8]) -> Result<(Vec<u8>, Vec<Range<usize>>), Refusal> {
-    if list.is_empty() {
-        return Ok((Vec::new(), Vec::new()));
+/// The bytes of all columns, and behind them the buffers that their lists name, each once.
+fn take(memory: &Memory, columns: &[Standing]) -> Result<Taken, Refusal> {
+    let listed = || columns.iter().flat_map(|column| column.list.chunks_exact(4)).map(|number| word(number, 0));
+    let mut numbers: Vec<u32> = listed().collect();
+    numbers.sort_unstable();
+    numbers.dedup();
+    let rows: usize = columns.iter().map(|column| column.values.len() + column.bitmap.len()).sum();
+    let buffers: usize = numbers.iter().map(|number| filled(memory, *number)).sum();
+    let mut bytes = Vec::with_capacity(rows + buffers);
+    for column in columns {
+        bytes.extend_from_slice(column.values);
+        bytes.extend_from_slice(column.bitmap);
     }
-    let (mut text, mut parts, mut read) = (Vec::new(), Vec::new(), HashMap::new());
-    for at in (0..list.len()).step_by(4) {
-        let number = word(list, at);
-        let range = match read.get(&number) {
-            Some(range) => Range::clone(range),
-            None => read.entry(number).or_insert(append(memory, number, &mut text)?).clone(),
-        };
-        parts.push(range);
-    }
-    Ok((text, parts))
+    let buffers = numbers.iter().map(|number| append(memory, *number, &mut bytes)).collect::<Result<Vec<_>, _>>()?;
+    let part = |number| numbers.binary_search(&number).map_or(0..0, |at| buffers[at].clone());
+    Ok(Taken { parts: listed().map(part).collect(), bytes })
 }
 
 /// The bytes of a buffer; none where the read is refused.
 pub(crate) fn buffer(memory: &Memory, number: u32) -> Result<Vec<u8>, Refusal> {
-    let mut bytes = Vec::new();
+    let mut bytes = Vec::with_capacity(filled(memory, number));
     append(memory, number, &mut bytes)?;
     Ok(bytes)
 }
 
-/// A buffer's bytes behind the text: where.
-fn append(memory: &Memory, number: u32, text: &mut Vec<u8>) -> Result<Range<usize>, Refusal> {
-    let length = usize::try_from(memory.read_buffer(number, &mut [])).map_err(|_| Refusal::State)?;
-    let start = text.len();
-    text.resize(start + length, 0);
-    memory.read_buffer(number, &mut text[start..]);
-    Ok(start..start + length)
+/// A buffer's bytes behind those that are there: where.
+fn append(memory: &Memory, number: u32, bytes: &mut Vec<u8>) -> Result<Range<usize>, Refusal> {
+    let start = bytes.len();
+    memory.append_buffer(number, bytes).ok_or(Refusal::State)?;
+    Ok(start..bytes.len())
 }
