@@ -59,7 +59,21 @@ pub struct CompletedColumn {
 pub(crate) struct Taken {
     pub(crate) bytes: Vec<u8>,
     /// where the buffer of each place stands, one list behind the other
-    pub(crate) parts: Vec<Range<usize>>,
+    pub(crate) parts: Vec<Part>,
+}
+
+/// A part of what was taken.
+#[derive(Clone, Copy)]
+pub(crate) struct Part {
+    pub(crate) start: usize,
+    pub(crate) length: usize,
+}
+
+impl Taken {
+    /// The bytes of a part.
+    fn part(&self, part: Part) -> &[u8] {
+        &self.bytes[part.start..][..part.length]
+    }
 }
 
 impl CompletedColumn {
@@ -74,13 +88,13 @@ impl CompletedColumn {
         let parts = self.parts();
         let inside = |view: &[u8]| match word(view, 0) as usize {
             0..=12 => true,
-            length => parts.get(word(view, 8) as usize).is_some_and(|part| word(view, 12) as usize + length <= part.len()),
+            length => parts.get(word(view, 8) as usize).is_some_and(|part| word(view, 12) as usize + length <= part.length),
         };
         !self.kind.is_view() || self.values().chunks_exact(16).all(inside)
     }
 
     /// Where the buffers of its list stand.
-    fn parts(&self) -> &[Range<usize>] {
+    fn parts(&self) -> &[Part] {
         &self.taken.parts[self.list.clone()]
     }
 
@@ -106,7 +120,7 @@ impl CompletedColumn {
 
     /// The buffers that long views name by place.
     pub fn buffers(&self) -> impl ExactSizeIterator<Item = &[u8]> {
-        self.parts().iter().map(|part| &self.taken.bytes[part.clone()])
+        self.parts().iter().map(|part| self.taken.part(*part))
     }
 
     /// How many rows are null.
@@ -138,7 +152,7 @@ impl CompletedColumn {
         match word(value, 0) as usize {
             length @ 0..=12 => value.get(4..4 + length),
             length => {
-                let buffer = self.taken.bytes.get(self.parts().get(word(value, 8) as usize)?.clone())?;
+                let buffer = self.taken.part(*self.parts().get(word(value, 8) as usize)?);
                 buffer.get(word(value, 12) as usize..)?.get(..length)
             }
         }

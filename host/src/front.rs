@@ -1,64 +1,92 @@
 //! The front batch: where its columns stand in lent memory, and its bytes copied out into one piece of memory, one pass a column.
 
-use crate::completed::{CompletedBatch, CompletedColumn, Taken};
+use crate::completed::{CompletedBatch, CompletedColumn, Part, Taken};
 use crate::layout::{filled, word};
 use crate::{Kind, Memory, Refusal};
-use std::ops::Range;
 use std::sync::Arc;
-
-/// A column of the front batch, as it stands in the slots.
-struct Standing<'a> {
-    kind: Kind,
-    values: &'a [u8],
-    bitmap: &'a [u8],
-    /// a word a buffer number
-    list: &'a [u8],
-}
 
 /// The front batch, copied, if there is one.
 pub(crate) fn read(memory: &Memory, kinds: &[Kind]) -> Result<Option<CompletedBatch>, Refusal> {
-    let mut out = [0; 512];
-    let rows = match memory.front_batch(&mut out).map_err(Refusal::of) {
+    let mut told = [0; 512];
+    let rows = match memory.front_batch(&mut told).map_err(Refusal::of) {
         Err(Refusal::NotThere) => return Ok(None),
         rows => rows? as usize,
     };
-    let standing = out.chunks_exact(32).zip(kinds).map(|(told, kind)| standing(&memory.slots, *kind, rows, told));
-    let standing: Vec<Standing> = standing.collect::<Result<_, _>>()?;
-    let taken = Arc::new(take(memory, &standing)?);
-    let (mut start, mut listed) = (0, 0);
-    let columns = standing.iter().map(|column| {
-        let (first, place) = (start, listed);
-        start += column.values.len() + column.bitmap.len();
-        listed += column.list.len() / 4;
-        CompletedColumn::of(column.kind, rows, &taken, first, place..listed).ok_or(Refusal::State)
-    });
-    Ok(Some(CompletedBatch::of(rows, columns.collect::<Result<_, _>>()?)))
-}
-
-/// A column, of the 32 bytes that tell where it stands.
-fn standing<'a>(slots: &'a [u8], kind: Kind, rows: usize, told: &[u8]) -> Result<Standing<'a>, Refusal> {
-    let at = |i: usize| word(told, 4 * i) as usize;
-    let part = |i: usize, length: usize| slots.get(at(i) | at(i + 1) << 32..).and_then(|rest| rest.get(..length)).ok_or(Refusal::State);
-    let (values, bitmap, list) = (part(0, rows * kind.width())?, part(2, rows.div_ceil(8))?, part(4, 4 * at(6))?);
-    if at(7) == kind.width() { Ok(Standing { kind, values, bitmap, list }) } else { Err(Refusal::State) }
-}
-
-/// The bytes of all columns, and behind them the buffers that their lists name, each once.
-fn take(memory: &Memory, columns: &[Standing]) -> Result<Taken, Refusal> {
-    let listed = || columns.iter().flat_map(|column| column.list.chunks_exact(4)).map(|number| word(number, 0));
-    let mut numbers: Vec<u32> = listed().collect();
-    numbers.sort_unstable();
-    numbers.dedup();
-    let rows: usize = columns.iter().map(|column| column.values.len() + column.bitmap.len()).sum();
-    let buffers: usize = numbers.iter().map(|number| filled(memory, *number)).sum();
-    let mut bytes = Vec::with_capacity(rows + buffers);
-    for column in columns {
-        bytes.extend_from_slice(column.values);
-        bytes.extend_from_slice(column.bitmap);
+    let front = Front { memory, kinds, rows, told: &told };
+    let taken = Arc::new(front.take()?);
+    let mut columns = Vec::with_capacity(kinds.len());
+    let (mut start, mut place) = (0, 0);
+    for (kind, told) in front.columns() {
+        let listed = place + listed(told);
+        columns.push(CompletedColumn::of(kind, rows, &taken, start, place..listed).ok_or(Refusal::State)?);
+        (start, place) = (start + rows * kind.width() + rows.div_ceil(8), listed);
     }
-    let buffers = numbers.iter().map(|number| append(memory, *number, &mut bytes)).collect::<Result<Vec<_>, _>>()?;
-    let part = |number| numbers.binary_search(&number).map_or(0..0, |at| buffers[at].clone());
-    Ok(Taken { parts: listed().map(part).collect(), bytes })
+    Ok(Some(CompletedBatch::of(rows, columns)))
+}
+
+/// The front batch where it stands, and what was told of it: 32 bytes a column.
+struct Front<'a> {
+    memory: &'a Memory,
+    kinds: &'a [Kind],
+    rows: usize,
+    told: &'a [u8; 512],
+}
+
+impl<'a> Front<'a> {
+    /// The columns, each with the bytes that tell where it stands.
+    fn columns(&self) -> impl Iterator<Item = (Kind, &'a [u8])> {
+        self.kinds.iter().copied().zip(self.told.chunks_exact(32))
+    }
+
+    /// The bytes of all columns, and behind them the buffers that their lists name, each once.
+    fn take(&self) -> Result<Taken, Refusal> {
+        let listed = self.listed()?;
+        let mut numbers = listed.clone();
+        numbers.sort_unstable();
+        numbers.dedup();
+        let rows: usize = self.kinds.iter().map(|kind| self.rows * kind.width() + self.rows.div_ceil(8)).sum();
+        let buffers: usize = numbers.iter().map(|number| filled(self.memory, *number)).sum();
+        let mut bytes = Vec::with_capacity(rows + buffers);
+        for (kind, told) in self.columns() {
+            if width(told) != kind.width() {
+                return Err(Refusal::State);
+            }
+            bytes.extend_from_slice(self.part(told, 0, self.rows * kind.width())?);
+            bytes.extend_from_slice(self.part(told, 8, self.rows.div_ceil(8))?);
+        }
+        let mut buffers = Vec::with_capacity(numbers.len());
+        for number in &numbers {
+            buffers.push(append(self.memory, *number, &mut bytes)?);
+        }
+        let part = |number| numbers.binary_search(number).map_or(Part { start: 0, length: 0 }, |at| buffers[at]);
+        Ok(Taken { parts: listed.iter().map(part).collect(), bytes })
+    }
+
+    /// The numbers of all lists, one list behind the other.
+    fn listed(&self) -> Result<Vec<u32>, Refusal> {
+        let mut numbers = Vec::new();
+        for (_, told) in self.columns().filter(|(_, told)| listed(told) > 0) {
+            let list = self.part(told, 16, 4 * listed(told))?;
+            numbers.extend(list.chunks_exact(4).map(|number| word(number, 0)));
+        }
+        Ok(numbers)
+    }
+
+    /// The part of the slots whose place is told at `at`.
+    fn part(&self, told: &[u8], at: usize, length: usize) -> Result<&'a [u8], Refusal> {
+        let start = word(told, at) as usize | (word(told, at + 4) as usize) << 32;
+        self.memory.slots.get(start..).and_then(|rest| rest.get(..length)).ok_or(Refusal::State)
+    }
+}
+
+/// The length of a column's list.
+fn listed(told: &[u8]) -> usize {
+    word(told, 24) as usize
+}
+
+/// The bytes of a row of a column.
+fn width(told: &[u8]) -> usize {
+    word(told, 28) as usize
 }
 
 /// The bytes of a buffer; none where the read is refused.
@@ -69,8 +97,8 @@ pub(crate) fn buffer(memory: &Memory, number: u32) -> Result<Vec<u8>, Refusal> {
 }
 
 /// A buffer's bytes behind those that are there: where.
-fn append(memory: &Memory, number: u32, bytes: &mut Vec<u8>) -> Result<Range<usize>, Refusal> {
+fn append(memory: &Memory, number: u32, bytes: &mut Vec<u8>) -> Result<Part, Refusal> {
     let start = bytes.len();
-    memory.append_buffer(number, bytes).ok_or(Refusal::State)?;
-    Ok(start..bytes.len())
+    let length = memory.append_buffer(number, bytes).ok_or(Refusal::State)?;
+    Ok(Part { start, length })
 }
