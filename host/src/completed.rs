@@ -63,7 +63,7 @@ pub(crate) struct Taken {
 }
 
 /// A part of what was taken.
-#[derive(Clone, Copy)]
+#[derive(Clone, Copy, Default)]
 pub(crate) struct Part {
     pub(crate) start: usize,
     pub(crate) length: usize,
@@ -83,12 +83,19 @@ impl CompletedColumn {
         column.leads_inside().then_some(column)
     }
 
-    /// Every view is inline, or leads into a buffer of the list.
+    /// Every view is inline, or leads into a buffer of the list; a view mostly names the buffer of the one before it.
     fn leads_inside(&self) -> bool {
-        let parts = self.parts();
-        let inside = |view: &[u8]| match word(view, 0) as usize {
-            0..=12 => true,
-            length => parts.get(word(view, 8) as usize).is_some_and(|part| word(view, 12) as usize + length <= part.length),
+        let filled = |index: usize| self.parts().get(index).map_or(0, |part| part.length);
+        let (mut last, mut end) = (0, filled(0));
+        let inside = |view: &[u8]| {
+            let (length, index) = (word(view, 0) as usize, word(view, 8) as usize);
+            if length <= 12 {
+                return true;
+            }
+            if index != last {
+                (last, end) = (index, filled(index));
+            }
+            word(view, 12) as usize + length <= end
         };
         !self.kind.is_view() || self.values().chunks_exact(16).all(inside)
     }

@@ -41,12 +41,12 @@ impl<'a> Front<'a> {
     /// The bytes of all columns, and behind them the buffers that their lists name, each once.
     fn take(&self) -> Result<Taken, Refusal> {
         let listed = self.listed()?;
-        let mut numbers = listed.clone();
-        numbers.sort_unstable();
-        numbers.dedup();
+        let mut buffers: Vec<(u32, Part)> = listed.iter().map(|number| (*number, Part::default())).collect();
+        buffers.sort_unstable_by_key(|(number, _)| *number);
+        buffers.dedup_by_key(|(number, _)| *number);
         let rows: usize = self.kinds.iter().map(|kind| self.rows * kind.width() + self.rows.div_ceil(8)).sum();
-        let buffers: usize = numbers.iter().map(|number| filled(self.memory, *number)).sum();
-        let mut bytes = Vec::with_capacity(rows + buffers);
+        let filled: usize = buffers.iter().map(|(number, _)| filled(self.memory, *number)).sum();
+        let mut bytes = Vec::with_capacity(rows + filled);
         for (kind, told) in self.columns() {
             if width(told) != kind.width() {
                 return Err(Refusal::State);
@@ -54,11 +54,10 @@ impl<'a> Front<'a> {
             bytes.extend_from_slice(self.part(told, 0, self.rows * kind.width())?);
             bytes.extend_from_slice(self.part(told, 8, self.rows.div_ceil(8))?);
         }
-        let mut buffers = Vec::with_capacity(numbers.len());
-        for number in &numbers {
-            buffers.push(append(self.memory, *number, &mut bytes)?);
+        for (number, part) in &mut buffers {
+            *part = append(self.memory, *number, &mut bytes)?;
         }
-        let part = |number| numbers.binary_search(number).map_or(Part { start: 0, length: 0 }, |at| buffers[at]);
+        let part = |number: &u32| buffers.binary_search_by_key(number, |(number, _)| *number).map_or(Part::default(), |at| buffers[at].1);
         Ok(Taken { parts: listed.iter().map(part).collect(), bytes })
     }
 
