@@ -1,20 +1,16 @@
--- One law for each exit of the call on the front batch, and for a turn of its loop.
-use Prim.Native.Nat.{ℕ, zero, suc, _+_, _*_, _%_, _/_, _≤_, _<_}
+-- One law for each exit of the call on the front batch, and for what is put in bytes.
+use Prim.Native.Nat.{ℕ, zero, suc, _+_, _*_, _%_, _/_}
 use mathlib.Core.Path.{_≡_, refl, sym, _∙_, ap}
-use mathlib.Core.Bool.{cond}
 use mathlib.Core.List.{List, []}
-use native.Mathlib.Omega.{arith}
-use native.Mathlib.Numerals.{add-one}
 use lib.ListN.{length}
 use borrow.Author.Tests.{eq-eqb, ne-eqb}
 use Rattle.words.specs.Word.{withWord32}
 use Rattle.counts.specs.declared.RowCount.{RowCount}
 use Rattle.state.specs.declared.BatchCoalescer.{BatchCoalescer}
 use Rattle.state.specs.World.{World, world}
-use Rattle.state.specs.Layout.{widthOf, bitmapPlace, listPlace, cellPlace, rowsIn, listLength, queuedSlot}
+use Rattle.state.specs.Layout.{rowsIn, listLength, queuedSlot}
 use Rattle.rules.specs.Ranges.{tested}
-use Rattle.ranges.specs.Passed.{PassedTests, passed-column}
-use Rattle.fronts.specs.Front.{frontRefusal, frontRows, FrontColumn, frontColumn, withLong, placesPut, columnPut, columnsPut, frontCall}
+use Rattle.fronts.specs.Front.{frontRefusal, frontRows, frontColumn, withLong, placesPut, columnPut, columnsPut, frontCall}
 use Rattle.fronts.specs.Fronts.{FrontsCall}
 
 -- ---- bytes

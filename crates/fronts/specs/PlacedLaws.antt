@@ -1,6 +1,6 @@
 -- Columns one after another: a running place is where the next column begins, and a column put by its kind is a column of the front batch.
 use Prim.Native.Nat.{ℕ, _+_, _*_, _/_, _≤_, _<_}
-use mathlib.Core.Path.{_≡_, refl, sym, _∙_, ap}
+use mathlib.Core.Path.{_≡_, refl, _∙_, ap}
 use mathlib.Core.List.{List, []}
 use native.Mathlib.Omega.{arith}
 use native.Mathlib.Numerals.{add-one}
@@ -15,7 +15,7 @@ use Rattle.state.specs.Layout.{bytesIn, widthOf, valuesBytes, bitmapBytes, colu
 use Rattle.layout.specs.Few.{sizeOfKind}
 use Rattle.layout.specs.ExitLaws.{values-small, column-kind}
 use Rattle.ranges.specs.Passed.{PassedTests, passed-few, passed-column}
-use Rattle.fronts.specs.Front.{FrontColumn, frontColumn, placesPut, columnPut, columnsPut}
+use Rattle.fronts.specs.Front.{frontColumn, placesPut, columnPut, columnsPut}
 use Rattle.fronts.specs.Placed.{columnOfKind}
 
 -- ---- one column
