@@ -233,3 +233,42 @@ impl fmt::Debug for CompletedColumn {
         f.debug_struct("CompletedColumn").field("kind", &self.kind).field("nulls", &nulls).field("buffers", &buffers).finish()
     }
 }
+
+#[cfg(test)]
+mod tests {
+    use super::*;
+
+    /// A view of so many bytes at an offset of the buffer at a place of the list.
+    fn view(length: u32, index: u32, offset: u32) -> Vec<u8> {
+        [length, 0, index, offset].iter().flat_map(|number| number.to_le_bytes()).collect()
+    }
+
+    /// Whether a column of these views is one, over a list of two buffers of 20 and 30 bytes; another column's list stands before it.
+    fn is_one(views: &[Vec<u8>]) -> bool {
+        let bytes = [views.concat(), vec![0xff; views.len().div_ceil(8)], vec![0; 50]].concat();
+        let parts = [90, 20, 30].map(|length| Part { start: bytes.len() - 50, length });
+        let taken = Arc::new(Taken { bytes, parts: parts.into() });
+        CompletedColumn::of(Kind::BinaryView, views.len(), &taken, 0, 1..3).is_some()
+    }
+
+    #[test]
+    fn a_view_that_leads_outside_its_buffers_is_refused() {
+        let inside = [view(20, 0, 0), view(13, 1, 17), view(12, 7, 99), view(13, 0, 7)];
+        assert!(is_one(&[]) && is_one(&inside));
+        for outside in [
+            view(21, 0, 0),
+            view(13, 0, 8),
+            view(13, 1, 18),
+            view(13, 2, 0),
+            view(13, u32::MAX, 0),
+            view(13, 0, u32::MAX),
+            view(u32::MAX, 1, 13),
+        ] {
+            for place in 0..=inside.len() {
+                let mut views = inside.to_vec();
+                views.insert(place, outside.clone());
+                assert!(!is_one(&views));
+            }
+        }
+    }
+}

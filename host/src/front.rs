@@ -88,9 +88,9 @@ fn width(told: &[u8]) -> usize {
     word(told, 28) as usize
 }
 
-/// The bytes of a buffer; none where the read is refused.
+/// The bytes of a buffer; none where the read is refused. By two calls: how many they are, and the bytes.
 pub(crate) fn buffer(memory: &Memory, number: u32) -> Result<Vec<u8>, Refusal> {
-    let mut bytes = Vec::with_capacity(filled(memory, number));
+    let mut bytes = Vec::new();
     append(memory, number, &mut bytes)?;
     Ok(bytes)
 }
