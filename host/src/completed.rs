@@ -6,6 +6,7 @@ use crate::{Error, Kind};
 use std::borrow::Cow;
 use std::fmt;
 use std::ops::Range;
+use std::sync::Arc;
 
 /// A batch that came out.
 #[derive(Clone, PartialEq, Eq)]
@@ -46,22 +47,62 @@ impl CompletedBatch {
 pub struct CompletedColumn {
     kind: Kind,
     rows: usize,
-    /// the values, and the bitmap behind them
-    bytes: Vec<u8>,
-    /// the buffers, one behind the other, and the part of each place of the list
-    text: Vec<u8>,
-    parts: Vec<Range<usize>>,
+    taken: Arc<Taken>,
+    /// where its values begin in what was taken, the bitmap behind them
+    start: usize,
+    /// the places of its list among all
+    list: Range<usize>,
+}
+
+/// What was taken of a batch, in one piece of memory that its columns share: the values and the bitmap of each column, then the buffers
+/// that the lists name, each once.
+pub(crate) struct Taken {
+    pub(crate) bytes: Vec<u8>,
+    /// where the buffer of each place stands, one list behind the other
+    pub(crate) parts: Vec<Part>,
+}
+
+/// A part of what was taken.
+#[derive(Clone, Copy, Default)]
+pub(crate) struct Part {
+    pub(crate) start: usize,
+    pub(crate) length: usize,
+}
+
+impl Taken {
+    /// The bytes of a part.
+    fn part(&self, part: Part) -> &[u8] {
+        &self.bytes[part.start..][..part.length]
+    }
 }
 
 impl CompletedColumn {
-    /// A column of these bytes; `None` where a view leads outside them.
-    pub(crate) fn of(kind: Kind, rows: usize, values: &[u8], bitmap: &[u8], text: Vec<u8>, parts: Vec<Range<usize>>) -> Option<Self> {
-        let inside = |view: &[u8]| match word(view, 0) as usize {
-            0..=12 => true,
-            length => parts.get(word(view, 8) as usize).is_some_and(|part| word(view, 12) as usize + length <= part.len()),
+    /// A column of what was taken; `None` where a view leads outside its buffers.
+    pub(crate) fn of(kind: Kind, rows: usize, taken: &Arc<Taken>, start: usize, list: Range<usize>) -> Option<Self> {
+        let column = CompletedColumn { kind, rows, taken: Arc::clone(taken), start, list };
+        column.leads_inside().then_some(column)
+    }
+
+    /// Every view is inline, or leads into a buffer of the list; a view mostly names the buffer of the one before it.
+    fn leads_inside(&self) -> bool {
+        let filled = |index: usize| self.parts().get(index).map_or(0, |part| part.length);
+        let (mut last, mut end) = (0, filled(0));
+        let inside = |view: &[u8]| {
+            let (length, index) = (word(view, 0) as usize, word(view, 8) as usize);
+            if length <= 12 {
+                return true;
+            }
+            if index != last {
+                (last, end) = (index, filled(index));
+            }
+            word(view, 12) as usize + length <= end
         };
-        let whole = values.len() == rows * kind.width() && (!kind.is_view() || values.chunks_exact(kind.width()).all(inside));
-        whole.then(|| CompletedColumn { kind, rows, bytes: [values, bitmap].concat(), text, parts })
+        !self.kind.is_view() || self.values().chunks_exact(16).all(inside)
+    }
+
+    /// Where the buffers of its list stand.
+    fn parts(&self) -> &[Part] {
+        &self.taken.parts[self.list.clone()]
     }
 
     /// Its kind.
@@ -76,17 +117,17 @@ impl CompletedColumn {
 
     /// The rows' values, one behind the other, little-endian; of a view 16 bytes, in Arrow's layout.
     pub fn values(&self) -> &[u8] {
-        &self.bytes[..self.rows * self.kind.width()]
+        &self.taken.bytes[self.start..][..self.rows * self.kind.width()]
     }
 
     /// One bit a row from bit 0 on, least significant first, 1 valid; spare bits are 0.
     pub fn validity(&self) -> &[u8] {
-        &self.bytes[self.rows * self.kind.width()..]
+        &self.taken.bytes[self.start + self.rows * self.kind.width()..][..self.rows.div_ceil(8)]
     }
 
     /// The buffers that long views name by place.
     pub fn buffers(&self) -> impl ExactSizeIterator<Item = &[u8]> {
-        self.parts.iter().map(|part| &self.text[part.clone()])
+        self.parts().iter().map(|part| self.taken.part(*part))
     }
 
     /// How many rows are null.
@@ -111,14 +152,14 @@ impl CompletedColumn {
 
     /// What a row that is not null shows.
     fn shown(&self, row: usize) -> Option<&[u8]> {
-        let value = self.bytes.get(row * self.kind.width()..)?.get(..self.kind.width())?;
+        let value = self.values().get(row * self.kind.width()..)?.get(..self.kind.width())?;
         if !self.kind.is_view() {
             return Some(value);
         }
         match word(value, 0) as usize {
             length @ 0..=12 => value.get(4..4 + length),
             length => {
-                let buffer = self.text.get(self.parts.get(word(value, 8) as usize)?.clone())?;
+                let buffer = self.taken.part(*self.parts().get(word(value, 8) as usize)?);
                 buffer.get(word(value, 12) as usize..)?.get(..length)
             }
         }
@@ -188,7 +229,46 @@ impl fmt::Debug for CompletedBatch {
 
 impl fmt::Debug for CompletedColumn {
     fn fmt(&self, f: &mut fmt::Formatter<'_>) -> fmt::Result {
-        let (nulls, buffers) = (self.null_count(), self.parts.len());
+        let (nulls, buffers) = (self.null_count(), self.list.len());
         f.debug_struct("CompletedColumn").field("kind", &self.kind).field("nulls", &nulls).field("buffers", &buffers).finish()
+    }
+}
+
+#[cfg(test)]
+mod tests {
+    use super::*;
+
+    /// A view of so many bytes at an offset of the buffer at a place of the list.
+    fn view(length: u32, index: u32, offset: u32) -> Vec<u8> {
+        [length, 0, index, offset].iter().flat_map(|number| number.to_le_bytes()).collect()
+    }
+
+    /// Whether a column of these views is one, over a list of two buffers of 20 and 30 bytes; another column's list stands before it.
+    fn is_one(views: &[Vec<u8>]) -> bool {
+        let bytes = [views.concat(), vec![0xff; views.len().div_ceil(8)], vec![0; 50]].concat();
+        let parts = [90, 20, 30].map(|length| Part { start: bytes.len() - 50, length });
+        let taken = Arc::new(Taken { bytes, parts: parts.into() });
+        CompletedColumn::of(Kind::BinaryView, views.len(), &taken, 0, 1..3).is_some()
+    }
+
+    #[test]
+    fn a_view_that_leads_outside_its_buffers_is_refused() {
+        let inside = [view(20, 0, 0), view(13, 1, 17), view(12, 7, 99), view(13, 0, 7)];
+        assert!(is_one(&[]) && is_one(&inside));
+        for outside in [
+            view(21, 0, 0),
+            view(13, 0, 8),
+            view(13, 1, 18),
+            view(13, 2, 0),
+            view(13, u32::MAX, 0),
+            view(13, 0, u32::MAX),
+            view(u32::MAX, 1, 13),
+        ] {
+            for place in 0..=inside.len() {
+                let mut views = inside.to_vec();
+                views.insert(place, outside.clone());
+                assert!(!is_one(&views));
+            }
+        }
     }
 }

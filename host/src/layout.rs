@@ -59,6 +59,12 @@ pub struct Entry {
     pub listings: u32,
 }
 
+/// The bytes that a buffer fills by the books, as far as the pool goes: what to make room for. What is read is what the call answers.
+pub(crate) fn filled(memory: &Memory, number: u32) -> usize {
+    let entry = memory.books.get(4 + 20 * number as usize..).and_then(|rest| rest.get(..20));
+    entry.map_or(0, |entry| memory.pool.len().min(word(entry, 8) as usize))
+}
+
 /// Memory in which a set-up stands, read by its layout.
 pub struct Reader<'a> {
     /// the memory

@@ -149,6 +149,24 @@ impl Memory {
         )
     }
 
+    /// Appends a buffer's bytes: how many, `None` where they do not fit the machine. One call where `bytes` has room for them.
+    pub(crate) fn append_buffer(&self, buffer: u32, bytes: &mut Vec<u8>) -> Option<usize> {
+        loop {
+            let room = bytes.spare_capacity_mut();
+            let answer = call!(
+                pw_read_buffer, self, [state as_ptr, slots as_ptr, pool as_ptr, books as_ptr],
+                buffer, room.as_mut_ptr().cast(), room.len()
+            );
+            let length = usize::try_from(answer).ok()?;
+            if length <= room.len() {
+                // Safety: the call wrote a buffer's `length` bytes to the front of the room, which has as many.
+                unsafe { bytes.set_len(bytes.len() + length) };
+                return Some(length);
+            }
+            bytes.reserve(length);
+        }
+    }
+
     /// The rows of the front batch; in `out`, for column c at 32 x c, the places in the slots of its values, its bitmap and its list (u64 each),
     /// its list length and the bytes of a row (u32 each). 13 where nothing is queued.
     pub fn front_batch(&self, out: &mut [u8; 512]) -> Result<u32, u32> {

@@ -124,3 +124,27 @@ fn a_batch_by_column_is_what_reading_its_rows_answers() {
     }
     assert!(coalescer.is_empty());
 }
+
+/// Lists that name the same buffers, one of them twice: each column reads its own places, also when the batch is gone.
+#[test]
+fn columns_that_list_the_same_buffers_read_their_own_places() {
+    let (one, two) = (&b"Gurpreet Kaur Bhullar"[..], &b"Harini Subramanian"[..]);
+    let set_up = SetUp::new(&[Kind::Utf8View, Kind::UInt8, Kind::BinaryView], 8);
+    let mut coalescer = BatchCoalescer::new(&set_up).unwrap().with_biggest_coalesce_batch_size(Some(1));
+    let [a, b] = [one, two].map(|bytes| coalescer.register_buffer(bytes, bytes.len() as u32).unwrap());
+    let lists = ([b, a, a], [a, b]);
+    let names = [long_view(two, 0, 0, 18), long_view(one, 1, 0, 21), long_view(one, 2, 5, 16)].map(Result::unwrap).concat();
+    let bytes = [long_view(one, 0, 0, 21), inline_view(b"none"), long_view(two, 1, 0, 18)].map(Result::unwrap).concat();
+    let columns = [
+        Column { kind: Kind::Utf8View, values: &names, validity: None, buffers: &lists.0 },
+        Column { kind: Kind::UInt8, values: &[7, 8, 9], validity: None, buffers: &[] },
+        Column { kind: Kind::BinaryView, values: &bytes, validity: None, buffers: &lists.1 },
+    ];
+    coalescer.push_batch(&Batch::new(3, &columns).unwrap()).unwrap();
+    let batch = coalescer.next_completed_batch().unwrap().unwrap();
+    let [first, numbers, last] = [0, 1, 2].map(|c| batch.column(c).unwrap().clone());
+    drop(batch);
+    assert!(first.strings().unwrap().eq([Some(two), Some(one), Some(&one[5..])]) && first.buffers().eq([two, one, one]));
+    assert!(numbers.u8s().unwrap().eq([7, 8, 9].map(Some)) && numbers.buffers().len() == 0);
+    assert!(last.strings().unwrap().eq([Some(one), Some(&b"none"[..]), Some(two)]) && last.buffers().eq([one, two]));
+}

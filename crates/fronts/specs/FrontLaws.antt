@@ -1,20 +1,16 @@
--- One law for each exit of the call on the front batch, and for a turn of its loop.
-use Prim.Native.Nat.{ℕ, zero, suc, _+_, _*_, _%_, _/_, _≤_, _<_}
+-- One law for each exit of the call on the front batch, and for what is put in bytes.
+use Prim.Native.Nat.{ℕ, zero, suc, _+_, _*_, _%_, _/_}
 use mathlib.Core.Path.{_≡_, refl, sym, _∙_, ap}
-use mathlib.Core.Bool.{cond}
 use mathlib.Core.List.{List, []}
-use native.Mathlib.Omega.{arith}
-use native.Mathlib.Numerals.{add-one}
 use lib.ListN.{length}
 use borrow.Author.Tests.{eq-eqb, ne-eqb}
 use Rattle.words.specs.Word.{withWord32}
 use Rattle.counts.specs.declared.RowCount.{RowCount}
 use Rattle.state.specs.declared.BatchCoalescer.{BatchCoalescer}
 use Rattle.state.specs.World.{World, world}
-use Rattle.state.specs.Layout.{widthOf, bitmapPlace, listPlace, cellPlace, rowsIn, listLength, queuedSlot}
+use Rattle.state.specs.Layout.{rowsIn, listLength, queuedSlot}
 use Rattle.rules.specs.Ranges.{tested}
-use Rattle.ranges.specs.Passed.{PassedTests, passed-column}
-use Rattle.fronts.specs.Front.{frontRefusal, frontRows, FrontColumn, frontColumn, withLong, placesPut, columnPut, columnsPut, frontCall}
+use Rattle.fronts.specs.Front.{frontRefusal, frontRows, frontColumn, withLong, placesPut, columnPut, columnsPut, frontCall}
 use Rattle.fronts.specs.Fronts.{FrontsCall}
 
 -- ---- bytes
@@ -26,37 +22,6 @@ long-is out at v p q = rw (q, p)
 pub places-are : (out : List ℕ) (at values bitmap list : ℕ) {a b d : List ℕ} → a ≡ withLong out at values → b ≡ withLong a (at + 8) bitmap → d ≡ withLong b (at + 16) list → d ≡ placesPut out at values bitmap list
 unfolding placesPut
 places-are out at values bitmap list p q t = rw (t, q, p)
-
--- a column
-module _ (s : BatchCoalescer) (slots books out : List ℕ) (slot c : ℕ) where
-  pub column-is : {values bitmap list count width : ℕ} {a b d : List ℕ} → slot ≡ queuedSlot s 0 → values ≡ cellPlace s slot c 0 → bitmap ≡ bitmapPlace s slot c → list ≡ listPlace s slot c → count ≡ listLength (world s [] [] books) slot c → width ≡ widthOf s c → a ≡ placesPut out (32 * c) values bitmap list → b ≡ withWord32 a (32 * c + 24) count → d ≡ withWord32 b (32 * c + 28) width → d ≡ columnPut out (32 * c) (frontColumn (world s slots [] books) c)
-  unfolding columnPut frontColumn listLength
-  column-is o p q t u x f g h = rw (h, g, f, p, q, t, u, x, o)
-
--- what a column's 32 bytes ask of `out`
-module _ (s : BatchCoalescer) (slots books : List ℕ) (p : PassedTests s slots books) {c : ℕ} (h : c < s .columns) {n : ℕ} (l : n ≡ 512) where
-  pub places-room : 32 * c + 24 ≤ n
-  places-room = omega (arith, passed-column s slots books p h)
-
-  -- `out` keeps its length
-  pub count-room : {m : ℕ} → m ≡ n → 32 * c + 24 + 4 ≤ m
-  count-room e = omega (arith, passed-column s slots books p h)
-
-  pub width-room : {m k : ℕ} → m ≡ n → k ≡ m → 32 * c + 28 + 4 ≤ k
-  width-room e f = omega (arith, passed-column s slots books p h)
-
--- every column
-module _ (s : BatchCoalescer) (slots books out : List ℕ) where
-  pub columns-none : out ≡ columnsPut (world s slots [] books) out 0
-  unfolding columnsPut
-  columns-none = refl
-
-  pub columns-more : (c : ℕ) {a b : List ℕ} → a ≡ columnsPut (world s slots [] books) out c → b ≡ columnPut a (32 * c) (frontColumn (world s slots [] books) c) → b ≡ columnsPut (world s slots [] books) out (c + 1)
-  unfolding columnsPut
-  columns-more c p q = rw add-one (rw (q, p))
-
-  pub columns-done : (c : ℕ) {a : List ℕ} → a ≡ columnsPut (world s slots [] books) out c → c ≤ s .columns → s .columns ≤ c → a ≡ columnsPut (world s slots [] books) out (s .columns)
-  columns-done c p h l = p ∙ ap (columnsPut (world s slots [] books) out) (omega arith)
 
 -- the places do not look at the pool
 same-columns : (s : BatchCoalescer) (slots pool books out : List ℕ) (n : ℕ) → columnsPut (world s slots [] books) out n ≡ columnsPut (world s slots pool books) out n

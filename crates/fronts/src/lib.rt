@@ -6,7 +6,8 @@ ghost use Prim.Native.Nat.{_+_, _*_, _≤_, _<_};
 ghost use lib.ListN.{length};
 ghost use Rattle.state.specs.World.{world};
 ghost use Rattle.state.specs.Layout.{queuedSlot};
-ghost use Rattle.fronts.specs.Front.{withLong, placesPut, columnPut, frontColumn, columnsPut, frontCall};
+ghost use Rattle.fronts.specs.Front.{withLong, placesPut, columnPut, columnsPut, frontCall};
+ghost use Rattle.fronts.specs.Placed.{columnOfKind};
 ghost use Rattle.ranges.specs.Passed.{PassedTests};
 ghost use Rattle.fronts.specs.Fronts.{FrontsCall};
 use counts::RowCount;
@@ -37,30 +38,33 @@ fn put_places(out: &mut [u8], at: usize, values: usize, bitmap: usize, list: usi
     put_long(out, at + 16, list);
 }
 
-// Column c of the front batch, in slot `slot`, in 32 bytes.
-fn put_column(s: BatchCoalescer, slots: &[u8], books: &[u8], slot: u32, c: u32, out: &mut [u8])
-    requires { ⌜ (PassedTests s (now slots) (now books)) × (slot ≡ queuedSlot s 0) × (slot ≤ s .queue) × (c < s .columns) × (length (now out) ≡ 512) ⌝ }
-    ensures { λ _. ⌜ now (out .exit) ≡ columnPut (now (out .entry)) (32 * c) (frontColumn (world s (now (slots .entry)) [] (now (books .entry))) c) ⌝ }
+// Column c of the front batch in 32 bytes: of its kind, the rows of a slot, where its values begin and how many numbers its list has.
+fn put_column(kind: u32, rows: RowCount, place: usize, count: u32, c: u32, out: &mut [u8])
+    requires { ⌜ (rows .0 ≤ 65536) × (place ≤ 36000000000) × (c < 16) × (length (now out) ≡ 512) ⌝ }
+    ensures { λ _. ⌜ now (out .exit) ≡ columnPut (now (out .entry)) (32 * c) (columnOfKind kind (rows .0) place count) ⌝ }
 {
-    let values = layout::cell_place(s, slot, c, 0);
-    let bitmap = layout::bitmap_place(s, slot, c);
-    let list = layout::list_place(s, slot, c);
-    let count = slot_counts::list_length(s, books, slot, c);
-    let width = layout::width_of(s, c) as u32;
+    let width = layout::width_in(kind);
+    let bitmap = place + (rows.0 as usize) * width;
+    let list = bitmap + ((rows.0 as usize) + 7) / 8;
     let at = 32 * (c as usize);
-    put_places(out, at, values, bitmap, list);
+    put_places(out, at, place, bitmap, list);
     words::put32(out, at + 24, count);
-    words::put32(out, at + 28, width);
+    words::put32(out, at + 28, width as u32);
 }
 
-// Every column.
+// Every column: `place` runs along the slot, and no column sees the state.
 fn put_columns(s: BatchCoalescer, slots: &[u8], books: &[u8], slot: u32, out: &mut [u8])
     requires { ⌜ (PassedTests s (now slots) (now books)) × (slot ≡ queuedSlot s 0) × (slot ≤ s .queue) × (length (now out) ≡ 512) ⌝ }
     ensures { λ _. ⌜ now (out .exit) ≡ columnsPut (world s (now (slots .entry)) [] (now (books .entry))) (now (out .entry)) (s .columns) ⌝ }
 {
+    let mut place = layout::values_place(s, slot, 0);
     let mut c: u32 = 0;
     while c < s.columns {
-        put_column(s, slots, books, slot, c, out);
+        let at = c as usize;
+        let column = s.column[at];
+        let count = slot_counts::list_length(s, books, slot, c);
+        put_column(column.kind, s.rows, place, count, c, out);
+        place += layout::column_size(column.kind, s.rows, s.lists);
         c += 1;
     }
 }

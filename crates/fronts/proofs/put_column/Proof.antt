@@ -1,45 +1,51 @@
 -- `fronts::put_column` meets its contract.
 use borrow.Author.Needs.{needs}
-use Rattle.ranges.specs.Passed.{passed-few, passed-books, passed-slot, passed-column}
-use Rattle.fronts.specs.FrontLaws.{column-is, places-room, count-room, width-room}
+use Rattle.layout.specs.ExitLaws.{values-fit}
+use Rattle.fronts.specs.PlacedLaws.{bitmap-fits, list-fits, column-is}
 use Rattle.fronts.proofs.put_column.Statement.{statement}
 use Rattle.fronts.proofs.put_column.Tie as tie
 
-cell-place-requires : tie.Need-cell-place-requires
-cell-place-requires c κs = search (passed-few, passed-slot, passed-column, needs)
+width-in-requires : tie.Need-width-in-requires
+width-in-requires c κs = search needs
 
-bitmap-place-requires : tie.Need-bitmap-place-requires
-bitmap-place-requires c κs = search (passed-few, passed-slot, passed-column, needs)
+cast-bitmap : tie.Need-cast-bitmap
+cast-bitmap c = search needs
 
-list-place-requires : tie.Need-list-place-requires
-list-place-requires c κs = search (passed-few, passed-slot, passed-column, needs)
+mul-bitmap : tie.Need-mul-bitmap
+mul-bitmap c = search (values-fit, needs)
 
-list-length-requires : tie.Need-list-length-requires
-list-length-requires c κs = search (passed-few, passed-books, needs)
+add-bitmap : tie.Need-add-bitmap
+add-bitmap c = search (bitmap-fits, needs)
 
-width-of-requires : tie.Need-width-of-requires
-width-of-requires c κs = search (passed-column, needs)
+cast-list : tie.Need-cast-list
+cast-list c = search needs
 
-cast-width : tie.Need-cast-width
-cast-width c = search needs
+add-list : tie.Need-add-list
+add-list c = search needs
+
+add-list-2 : tie.Need-add-list-2
+add-list-2 c = search (list-fits, needs)
 
 mul-at : tie.Need-mul-at
 mul-at c = search needs
 
 put-places-requires : tie.Need-put-places-requires
-put-places-requires c κs = search (places-room, needs)
+put-places-requires c κs = search needs
 
 add-put32 : tie.Need-add-put32
 add-put32 c = search needs
 
 put32-requires : tie.Need-put32-requires
-put32-requires c κs = search (count-room, needs)
+put32-requires c κs = search needs
 
 add-put32-2 : tie.Need-add-put32-2
 add-put32-2 c = search needs
 
+cast-put32 : tie.Need-cast-put32
+cast-put32 c = search needs
+
 put32-requires-2 : tie.Need-put32-requires-2
-put32-requires-2 c κs = search (width-room, needs)
+put32-requires-2 c κs = search needs
 
 same-length : tie.Need-same-length
 same-length c = search needs
@@ -51,17 +57,19 @@ pub put-column-spec : {M : Type 1} → statement M
 put-column-spec =
     tie.close
     (tie.spec
-    cell-place-requires
-    bitmap-place-requires
-    list-place-requires
-    list-length-requires
-    width-of-requires
-    cast-width
+    width-in-requires
+    cast-bitmap
+    mul-bitmap
+    add-bitmap
+    cast-list
+    add-list
+    add-list-2
     mul-at
     put-places-requires
     add-put32
     put32-requires
     add-put32-2
+    cast-put32
     put32-requires-2
     same-length
     returns)
