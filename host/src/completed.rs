@@ -42,7 +42,8 @@ impl CompletedBatch {
 }
 
 /// A column that came out, in Arrow's layout: values one behind the other, a bit a row, and for views the buffers that they name. Two
-/// are equal where kind and rows are, whatever lies under null rows and wherever strings lie.
+/// are equal where kind and rows are, whatever lies under null rows and wherever strings lie. The columns of a batch share one piece of
+/// memory, which lives as long as one of them or a clone does.
 #[derive(Clone)]
 pub struct CompletedColumn {
     kind: Kind,
