@@ -14,16 +14,20 @@ fn write(text: &[u8]) {
 }
 
 // The input ended with `got` of a header's 48 bytes. Between two calls that is as it should be; not before the first, nor where a read
-// fails.
-pub fn ended(number: u64, got: usize) {
+// fails: that is told, and answered.
+pub fn ended(number: u64, got: usize) -> bool {
     let mut one = [0u8; 1];
     if libc::read(STDIN_FILENO, &mut one) < 0 {
         tell(b"capture: standard input can't be read, at call ", number);
         write(b"\n");
+        true
     } else if got != 0 {
-        cut_short(number, 48, got);
+        cut_short(number, 48, got)
     } else if number <= 1 {
         write(b"capture: there is no call in it\n");
+        true
+    } else {
+        false
     }
 }
 
@@ -39,17 +43,15 @@ pub fn cut_short(number: u64, size: usize, got: usize) -> bool {
     false
 }
 
-// Whether a call is none of docs/HOST.md, which is told.
-pub fn of_no_kind(number: u64, what: u32) -> bool {
-    match what {
-        1..=14 | 99 => false,
-        _ => {
-            tell(b"capture: call ", number);
-            tell(b" is of no kind: ", what as u64);
-            write(b"\n");
-            true
-        }
+// Whether a call is none of docs/HOST.md, those up to `last` and text, which is told.
+pub fn of_no_kind(number: u64, last: u32, what: u32) -> bool {
+    if (0 < what && what <= last) || what == 99 {
+        return false;
     }
+    tell(b"capture: call ", number);
+    tell(b" is of no kind: ", what as u64);
+    write(b"\n");
+    true
 }
 
 // Whether a call brings more bytes than there is room for, which is told.
@@ -87,4 +89,15 @@ pub fn other_columns(number: u64) {
 // Standard output takes no more.
 pub fn output_ends() {
     write(b"capture: standard output takes no more\n");
+}
+
+// A match that was never set up.
+pub fn never_set_up() {
+    write(b"capture: no set-up in it was done\n");
+}
+
+// Calls of a match that were refused: what they brought is not shown.
+pub fn calls_refused(count: u64) {
+    tell(b"capture: calls refused: ", count);
+    write(b"\n");
 }

@@ -3,7 +3,9 @@
 mod faults;
 mod text;
 
+pub use faults::calls_refused;
 pub use faults::lends_too_much;
+pub use faults::never_set_up;
 pub use faults::other_columns;
 pub use faults::output_ends;
 pub use text::end_line;
@@ -51,9 +53,10 @@ fn call_at(header: &[u8]) -> Call
     }
 }
 
-// What was read: whether there is a call, the call, and the lengths of its two runs of bytes.
+// What was read: whether there is a call, where there is none whether that was told, the call, and the lengths of its two runs of bytes.
 pub struct Fetched {
     pub more: bool,
+    pub told: bool,
     pub call: Call,
     pub first: usize,
     pub second: usize,
@@ -74,9 +77,10 @@ pub fn lent_after(lent: Lent, f: Fetched) -> Lent {
 }
 
 // A call that brings no bytes and no numbers.
-fn bare(more: bool, what: u32) -> Fetched {
+fn bare(more: bool, told: bool, what: u32) -> Fetched {
     Fetched {
         more,
+        told,
         call: Call {
             what,
             a: 0,
@@ -93,37 +97,36 @@ fn bare(more: bool, what: u32) -> Fetched {
     }
 }
 
-// No more call: a text of no bytes in its place.
+// No more call, since of what stands there a fault was told: a text of no bytes in its place.
 pub fn the_end() -> Fetched {
-    bare(false, 99)
+    bare(false, true, 99)
 }
 
 // A drop of the front batch, as a capture would have it.
 pub fn a_drop() -> Fetched {
-    bare(true, 6)
+    bare(true, false, 6)
 }
 
 // Call `number` of the capture on standard input, the first 1: its two runs in `bytes`, one behind the other. None at the end of the input,
-// and none where it is not a whole call that this program has room for: that is told.
-pub fn fetch(number: u64, bytes: &mut [u8]) -> Fetched {
+// and none where it is not a whole call, of those up to `last` or text, that this program has room for: that is told.
+pub fn fetch(number: u64, last: u32, bytes: &mut [u8]) -> Fetched {
     let mut header = [0u8; 48];
     let got = io::read_full(STDIN_FILENO, &mut header);
     if got == 48 {
-        fetch_runs(number, &header, bytes)
+        fetch_runs(number, last, &header, bytes)
     } else {
-        faults::ended(number, got);
-        the_end()
+        bare(false, faults::ended(number, got), 99)
     }
 }
 
 // The runs behind a header.
-fn fetch_runs(number: u64, header: &[u8], bytes: &mut [u8]) -> Fetched
+fn fetch_runs(number: u64, last: u32, header: &[u8], bytes: &mut [u8]) -> Fetched
     requires { ⌜ length (now header) ≡ 48 ⌝ }
 {
     let call = call_at(header);
     let first = words::get32(header, 36) as usize;
     let second = words::get32(header, 40) as usize;
-    if faults::of_no_kind(number, call.what) {
+    if faults::of_no_kind(number, last, call.what) {
         return the_end();
     }
     if faults::brings_too_much(number, first + second, bytes.len()) {
@@ -134,6 +137,7 @@ fn fetch_runs(number: u64, header: &[u8], bytes: &mut [u8]) -> Fetched
     }
     Fetched {
         more: true,
+        told: false,
         call,
         first,
         second,

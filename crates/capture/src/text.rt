@@ -24,16 +24,15 @@ pub fn show(text: &[u8]) {
     let mut before: u8 = 0;
     let mut i: usize = 0;
     while i < text.len() {
-        let b = text[i];
-        let one = [shown(before, b)];
+        before = shown(before, text[i]);
+        let one = [before];
         io::write_all(STDOUT_FILENO, &one);
-        before = b;
         i += 1;
     }
 }
 
-// A byte as it is shown behind another. A control byte is one below 32, 127, and one from 128 to 159 that stands by itself or behind 194, as
-// UTF-8 has the controls from 128 to 159; in any other place such a byte is the rest of a letter.
+// A byte as it is shown behind another that is shown. A control byte is one below 32, 127, and one from 128 to 159 that stands by itself or behind 194,
+// as UTF-8 has the controls from 128 to 159; in any other place such a byte is the rest of a letter.
 fn shown(before: u8, b: u8) -> u8
     ensures { λ r. ⌜ (31 < r) × (r ≡ 127 → ⊥) ⌝ }
 {

@@ -1,8 +1,6 @@
 // Plays the capture on standard input: the loop over its calls, for every program that plays one.
-mod calls;
 mod shown;
 
-ghost use Prim.Native.Nat.{_<_};
 use answers::part;
 use capture::Call;
 use capture::Fetched;
@@ -46,17 +44,9 @@ pub fn play(
             bytes,
             scratch,
         );
-        left = turns_left(left, turn.more);
+        left = turns::left_after(left, turn.more);
     }
-    last_line(job, &state);
-}
-
-// One turn less, of more than any capture has calls; none where there is no more call.
-fn turns_left(left: u64, more: bool) -> u64
-    requires { ⌜ 0 < left ⌝ }
-    ensures { λ r. ⌜ r < left ⌝ }
-{
-    if more { left - 1 } else { 0 }
+    last_line(job, &state, turn);
 }
 
 // One turn: the next call is read and made.
@@ -75,7 +65,7 @@ fn one_turn(
     let f = turns::next_call(is_table(job), ours, turn.number, room, bytes);
     let lent = capture::lent_after(turn.lent, f);
     let went = one_call(job, state, slots, pool, books, bytes, scratch, f, lent);
-    turns::after(turn, ours, lent, went)
+    turns::after(turn, ours, f, lent, went)
 }
 
 // The smaller of two lengths.
@@ -109,25 +99,17 @@ fn one_call(
     lent: Lent,
 ) -> Went {
     if !f.more {
-        return turns::over();
+        return turns::over(f);
     }
     let x = f.call;
     let second = part(bytes, f.first, f.second);
-    let s = front(slots, lent.slots);
-    let p = front(pool, lent.pool);
-    let k = front(books, lent.books);
+    let s = turns::front(slots, lent.slots);
+    let p = turns::front(pool, lent.pool);
+    let k = turns::front(books, lent.books);
     let looked = shown::look(job, state, s, p, k, scratch, x);
     let answer = calls::make(state, s, p, k, part(bytes, 0, f.first), second, x);
     let told = tell(job, x, second, answer, state);
     turns::made(looked & told, answer)
-}
-
-// The first n bytes of a memory, or all where there are fewer.
-fn front(s: &mut [u8], n: usize) -> &mut [u8] {
-    if n <= s.len() {
-        return &mut s[0..n];
-    }
-    s
 }
 
 // A call that was made, told with what the state then says; whether that could be written.
@@ -139,13 +121,14 @@ fn tell(job: Job, x: Call, second: &[u8], answer: u64, state: &[u8]) -> bool {
     }
 }
 
-// Behind the last call: a table says how many rows wait for more.
-fn last_line(job: Job, state: &[u8]) {
+// Behind the last call: a table says how many rows wait for more, and what became of the match.
+fn last_line(job: Job, state: &[u8], turn: Turn) {
     match job {
         Job::Table => {
             if !table::waiting(calls::buffered(state)) {
                 capture::output_ends();
             }
+            turns::end_of_match(turn);
         }
         Job::Telling => {}
     }

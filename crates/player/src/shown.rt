@@ -1,12 +1,11 @@
 // What calls only read, printed: the rows of the batch that a drop takes, cell by cell; a cell, a buffer, the books, bytes of a memory.
 ghost use Prim.Native.Nat.{_<_, _≤_};
 use crate::Job;
-use crate::calls;
 use answers::Cell;
 use capture::Call;
 
-// What a call reads: the rows of the batch that a drop takes; a cell, a buffer, the books, bytes of a memory. Whether its line could be
-// written; that of a drop comes later. `scratch` is for a buffer's bytes.
+// What a call reads or ends: the rows of the batch that a drop takes; a cell, a buffer, the books, bytes of a memory; rows that wait when a set-up
+// comes. Whether its line could be written; that of a drop comes later. `scratch` is for a buffer's bytes.
 pub fn look(
     job: Job,
     state: &[u8],
@@ -18,6 +17,7 @@ pub fn look(
 ) -> bool {
     let what = x.what;
     match what {
+        1 => show_left(job, state),
         6 => {
             show_rows(job, state, slots, pool, books, scratch);
             true
@@ -27,6 +27,14 @@ pub fn look(
         11 => telling::show_books(books),
         14 => show_bytes(state, slots, pool, books, x),
         _ => true,
+    }
+}
+
+// A table's rows that wait when another set-up comes.
+fn show_left(job: Job, state: &[u8]) -> bool {
+    match job {
+        Job::Table => table::waiting(calls::buffered(state)),
+        Job::Telling => true,
     }
 }
 

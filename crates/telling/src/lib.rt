@@ -80,7 +80,7 @@ fn name_limit(set: u32, rows: u32) {
 }
 
 // Whether the call was done, or the number of the refusal.
-fn tell_answer(refusal: u32) {
+pub fn tell_answer(refusal: u32) {
     if refusal == 0 {
         write(b": done");
     } else {
@@ -113,7 +113,7 @@ fn tell_number(answer: Answer) {
 }
 
 // The rows buffered and the batches queued.
-fn tell_counts(counts: Counts) {
+pub fn tell_counts(counts: Counts) {
     say(b", buffered ", counts.buffered);
     say(b", queued ", counts.queued);
 }
@@ -201,7 +201,7 @@ fn tell_value(kind: u32, bytes: &[u8]) {
 }
 
 // Two digits a byte.
-fn tell_bytes(s: &[u8]) {
+pub fn tell_bytes(s: &[u8]) {
     let mut i: usize = 0;
     while i < s.len() {
         tell_byte(s[i]);

@@ -27,8 +27,8 @@ slice-aggregate-one-turn c = search needs
 one-turn-requires : tie.Need-one-turn-requires Inv-loop μ-loop
 one-turn-requires c κs = search needs
 
-turns-left-requires : tie.Need-turns-left-requires Inv-loop μ-loop
-turns-left-requires c κs = search needs
+left-after-requires : tie.Need-left-after-requires Inv-loop μ-loop
+left-after-requires c κs = search needs
 
 loop-less : tie.Need-loop-less Inv-loop μ-loop
 loop-less c = search needs
@@ -71,7 +71,7 @@ play-spec =
     loop-holds
     slice-aggregate-one-turn
     one-turn-requires
-    turns-left-requires
+    left-after-requires
     loop-less
     loop-again
     slice-aggregate-last-line
