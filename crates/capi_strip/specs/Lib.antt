@@ -1,0 +1,3 @@
+-- What the exported functions of the strip answer and leave, on bytes.
+pub mod StripApi
+pub mod StripApiLaws
