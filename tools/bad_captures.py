@@ -1,6 +1,6 @@
 #!/usr/bin/env python3
-"""Plays captures that are cut, too long or odd with the program `court`, and holds what a person sees: the lines, the fault, the exit status.
-usage: bad_captures.py (after `rt check court`). Exit status 1 where one is not as it should be."""
+"""Plays captures that are cut, too long or odd with the programs `court` and `strip`, and holds what a person sees: the lines (of `court`), the fault,
+the exit status. usage: bad_captures.py (after `rt check court strip`). Exit status 1 where one is not as it should be."""
 import os
 import struct
 import subprocess
@@ -47,7 +47,8 @@ def odd_rows():
             ((None, None, None, None), ('-', '-', '-', '-')),
             ((5, 1, 1, b'\x1b[2Jab\x7f\n'), (5, 'home', 'out', '?[2Jab??')),
             ((6, 1, 1, 'Zoë'.encode()), (6, 'home', 'out', 'Zoë')),
-            ((7, 1, 1, b'a\x9bb\xc2\x9bc'), (7, 'home', 'out', 'a?b\udcc2?c'))]:
+            ((7, 1, 1, b'a\x9bb\xc2\x9bc'), (7, 'home', 'out', 'a?b\udcc2?c')),
+            ((8, 1, 1, b'a\x80\x9bc'), (8, 'home', 'out', 'a??c'))]:
         send(x, *cells)
         out += row(*shown)
     return x.data, out
@@ -77,6 +78,23 @@ def refusals():
     out = HEAD + ''.join(BESIDE + line + '\n' for line in [
         'the box registers a buffer, refused 12', 'the box lets a buffer go, refused 13', 'the box sends 1, refused 2', 'the match ends, refused 1'])
     return x.data, out + row(1, 'home', 'out', 'Asha')
+
+
+def another_set_up():
+    """Rows that wait when another set-up comes."""
+    x = court(t=4)
+    send(x, 1, 1, 1, b'Asha')
+    x.set_up(t=4, r=4, q=2, kinds=KINDS, b=4, n=16, p=32768)
+    head = HEAD.replace('once: 1', 'once: 4')
+    return x.data, head + BESIDE + 'the box sends 1\n---- rows that wait for more: 1\n' + head
+
+
+def only(*calls):
+    """A capture of such calls and no other."""
+    x = Capture()
+    for call in calls:
+        x.call(call)
+    return x.data
 
 
 def waiting():
@@ -135,14 +153,18 @@ CASES = [
     ('other columns', other_columns(), '', 'capture: call 1 sets up other columns than a match has: UInt64, UInt8, UInt8, Utf8View'),
     ('odd rows', *odd_rows(), ''),
     ('names far back and long', *far_names(), ''),
-    ('refusals', *refusals(), ''),
+    ('refusals', *refusals(), 'capture: calls refused: 4'),
+    ('another set-up', *another_set_up(), ''),
+    ('text alone', only(99, 99), '', 'capture: no set-up in it was done'),
+    ('a match without its set-up', only(5), BESIDE + 'the match ends, refused 1\n', 'capture: no set-up in it was done'),
     ('rows that wait', *waiting(), ''),
     ('a million calls', *many(), ''),
 ]
 
 
-def played(stdin, stdout):
-    done = subprocess.run([PLAY, 'court'], stdin=stdin, stdout=stdout, stderr=subprocess.PIPE, check=False)
+def played(program, stdin, stdout):
+    """What a program writes and tells, and its exit status."""
+    done = subprocess.run([PLAY, program], stdin=stdin, stdout=stdout, stderr=subprocess.PIPE, check=False)
     return (done.stdout or b'').decode(errors='surrogateescape'), done.stderr.decode(), done.returncode
 
 
@@ -150,7 +172,7 @@ def wrong(name, written, fault, got):
     """Says where what was seen is not what must be."""
     for what, must, saw in zip(('standard output', 'standard error', 'exit status'), (written, fault + '\n' if fault else '', 1 if fault else 0), got):
         if must is not None and must != saw:
-            print('court, %s: %s is\n%.600r\nand must be\n%.600r' % (name, what, saw, must))
+            print('%s: %s is\n%.600r\nand must be\n%.600r' % (name, what, saw, must))
             return True
     return False
 
@@ -158,17 +180,19 @@ def wrong(name, written, fault, got):
 def main():
     failed = 0
     for name, data, written, fault in CASES:
-        with tempfile.TemporaryFile() as capture:
-            capture.write(data)
+        for program in ('court', 'strip'):
+            with tempfile.TemporaryFile() as capture:
+                capture.write(data)
+                capture.seek(0)
+                failed += wrong(program + ', ' + name, written if program == 'court' else None, fault, played(program, capture, subprocess.PIPE))
+    for program in ('court', 'strip'):
+        folder = os.open(ROOT, os.O_RDONLY)
+        failed += wrong(program + ', a folder', '', "capture: standard input can't be read, at call 1", played(program, folder, subprocess.PIPE))
+        with tempfile.TemporaryFile() as capture, open('/dev/full', 'wb') as full:
+            capture.write(MATCH)
             capture.seek(0)
-            failed += wrong(name, written, fault, played(capture, subprocess.PIPE))
-    folder = os.open(ROOT, os.O_RDONLY)
-    failed += wrong('a folder for a capture', '', "capture: standard input can't be read, at call 1", played(folder, subprocess.PIPE))
-    with tempfile.TemporaryFile() as capture, open('/dev/full', 'wb') as full:
-        capture.write(MATCH)
-        capture.seek(0)
-        failed += wrong('no room for output', None, 'capture: standard output takes no more', played(capture, full))
-    print('court: %d captures that are cut, too long or odd, %d not as they should be' % (len(CASES) + 2, failed))
+            failed += wrong(program + ', no room for output', None, 'capture: standard output takes no more', played(program, capture, full))
+    print('court and strip: %d captures that are cut, too long or odd, %d not as they should be' % (len(CASES) + 2, failed))
     sys.exit(1 if failed else 0)
 
 

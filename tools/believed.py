@@ -20,7 +20,9 @@ PAGE = 'docs/DEFINITIONS.md'
 BEGIN = '<!-- made by tools/believed.py: do not edit by hand -->'
 END = '<!-- end of what tools/believed.py made -->'
 # the call by value behind `pw_NAME` is NAME, but for this one
-BY_VALUE = {'new': 'new_coalescer'}
+BY_VALUE = {'new': 'new_coalescer', 'strip_new': 'new_strip', 'strip_read': 'read_batch', 'strip_take': 'take_batch'}
+# calls that take neither a state nor set-up's wishes
+PLAIN = {('outs', 'new_strip')}
 # what such a call takes
 STATE = {'BatchCoalescer', 'Wanted'}
 ORDER = ('history', 'History', 'in-order')
@@ -95,7 +97,7 @@ def exported(repository):
     for source, function in layer:
         name = function.name.removeprefix('pw_')
         name = BY_VALUE.get(name, name)
-        found = [(other, call) for other, call in functions if call.name == name and call.types & STATE]
+        found = [(other, call) for other, call in functions if call.name == name and ((call.crate, name) in PLAIN or call.types & STATE)]
         if len(found) != 1:
             raise antt.Unresolved(f'{source.path}: {len(found)} functions {name} by value stand behind {function.name}')
         calls += found
