@@ -30,7 +30,7 @@ fn a_large_batch_goes_behind_the_buffered_rows() {
 
 #[test]
 fn each_refusal_has_its_number_and_says_what_happened_and_what_to_do() {
-    assert!(Refusal::all().map(Refusal::number).eq(1..=14));
+    assert!(Refusal::all().map(Refusal::number).eq((1..=14).chain([30])));
     for refusal in Refusal::all() {
         assert_eq!(Refusal::of(refusal.number()), refusal);
         assert_eq!(refusal.to_string(), format!("refused ({}): {}; {}", refusal.number(), refusal.happened(), refusal.remedy()));

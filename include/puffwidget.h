@@ -20,9 +20,14 @@
 extern "C" {
 #endif
 
+/* Bytes of the state, of a column's record, of pw_read_row's and of pw_front_batch's out, of a strip. */
 #define PW_STATE_BYTES 304
 #define PW_RECORD_BYTES 32
 #define PW_ROW_BYTES 20
+#define PW_FRONT_BYTES 512
+#define PW_STRIP_BYTES 972
+
+/* The third word of a record whose column has no bitmap. */
 #define PW_NO_VALIDITY UINT32_MAX
 
 #define PW_REFUSAL(answer) ((uint32_t)((uint64_t)(answer) >> 32))
@@ -34,6 +39,15 @@ enum pw_kind {
     PW_FLOAT64, PW_DATE32, PW_DATE64, PW_TIMESTAMP, PW_DURATION, PW_DECIMAL128, PW_DECIMAL256, PW_UTF8_VIEW, PW_BINARY_VIEW
 };
 
+/* The refusals; docs/RUNBOOK.md says of each what to do. 8 can't arise. Those from 31 on are of one row of a match, in the strip's numbers. */
+enum pw_refused {
+    PW_REFUSED_SET_UP = 1, PW_REFUSED_RECORD_BYTES = 2, PW_REFUSED_TOO_MANY_ROWS = 3, PW_REFUSED_RECORD = 4,
+    PW_REFUSED_OUTSIDE_BODY = 5, PW_REFUSED_NOT_HELD = 6, PW_REFUSED_INVALID_VIEW = 7, PW_REFUSED_START_PAST_RANGE = 8,
+    PW_REFUSED_QUEUE_FULL = 9, PW_REFUSED_LIST_FULL = 10, PW_REFUSED_NO_NUMBER = 11, PW_REFUSED_NO_ROOM = 12,
+    PW_REFUSED_NOT_THERE = 13, PW_REFUSED_STATE = 14, PW_REFUSED_OTHER_COLUMNS = 30, PW_REFUSED_OUT_OF_RANGE = 31,
+    PW_REFUSED_NUMBER_NOT_ABOVE = 32, PW_REFUSED_EIGHTH_OUT = 33, PW_REFUSED_NOBODY_OUT = 34, PW_REFUSED_ALREADY_OUT = 35
+};
+
 /* Set-up: 0, or 1 and nothing changed. kinds: a word of 4 bytes a column, at most 16. The pool's size is its length. */
 uint32_t pw_new(
     uint8_t *state, size_t state_len,
@@ -43,7 +57,9 @@ uint32_t pw_new(
     const uint8_t *kinds, size_t kinds_len,
     uint32_t target, uint32_t rows, uint32_t queue, uint32_t lists, uint32_t numbers);
 
-/* Pushes all rows of a batch: 0, or the refusal. records: 32 bytes a column; its values, bitmap and list start in body. */
+/* Pushes all rows of a batch: 0, or the refusal; 0 rows are done, and records and body are not looked at. records: 32 bytes a column,
+ * eight words: its kind; where its values start in body; where its bitmap starts there, or PW_NO_VALIDITY; the bitmap's first bit, 0
+ * with no bitmap; where its list of buffers starts in body, 0 with no list; how many numbers the list has, a word each; 0; 0. */
 uint32_t pw_push_batch(
     uint8_t *state, size_t state_len,
     uint8_t *slots, size_t slots_len,
@@ -67,7 +83,8 @@ uint64_t pw_next_completed_batch(
     const uint8_t *pool, size_t pool_len,
     uint8_t *books, size_t books_len);
 
-/* Copies bytes into the pool, where they occupy capacity bytes: the refusal, and the buffer's number, which a list names. */
+/* Copies bytes into the pool, where they occupy capacity bytes: the refusal, and the buffer's number, which a list
+ * names, the lowest that is free. A number is yours until you let it go; after that it may be somebody else's. */
 uint64_t pw_register_buffer(
     const uint8_t *state, size_t state_len,
     const uint8_t *slots, size_t slots_len,
@@ -76,7 +93,7 @@ uint64_t pw_register_buffer(
     const uint8_t *bytes, size_t bytes_len,
     uint32_t capacity);
 
-/* Lets a buffer go; rows that were pushed keep their bytes: 0, or the refusal. */
+/* Lets a buffer go; rows that were pushed keep their bytes: 0, or the refusal. The number may then be somebody else's. */
 uint32_t pw_let_go(
     const uint8_t *state, size_t state_len,
     const uint8_t *slots, size_t slots_len,
@@ -137,6 +154,28 @@ uint32_t pw_has_completed_batch(const uint8_t *state, size_t state_len);
 
 /* 1 where nothing is buffered and nothing can be taken, else 0. */
 uint32_t pw_is_empty(const uint8_t *state, size_t state_len);
+
+/* The player strip: 972 bytes of the caller's (docs/LAYOUT.md, "The strip"). An empty one: 0, or 1 where there are other than 972 bytes. */
+uint32_t pw_strip_new(uint8_t *strip, size_t strip_len);
+
+/* The strip reads the rows of the front batch, which stays: the refusal, and the rows read (0 on an empty queue). numbers: a byte a row, 0 where
+ * it was accepted, else 31 to 35. Refused with 30 where the columns are not UInt64, UInt8, UInt8, Utf8View. */
+uint64_t pw_strip_read(
+    const uint8_t *state, size_t state_len,
+    const uint8_t *slots, size_t slots_len,
+    const uint8_t *pool, size_t pool_len,
+    const uint8_t *books, size_t books_len,
+    uint8_t *strip, size_t strip_len,
+    uint8_t *numbers, size_t numbers_len);
+
+/* The same, and then drops the batch. */
+uint64_t pw_strip_take(
+    uint8_t *state, size_t state_len,
+    const uint8_t *slots, size_t slots_len,
+    const uint8_t *pool, size_t pool_len,
+    uint8_t *books, size_t books_len,
+    uint8_t *strip, size_t strip_len,
+    uint8_t *numbers, size_t numbers_len);
 
 #ifdef __cplusplus
 }

@@ -11,5 +11,6 @@ pub mod histories;
 mod lines;
 pub mod model;
 pub mod rng;
+pub mod strip_model;
 #[cfg(judge)]
 pub mod trace;

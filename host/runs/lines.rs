@@ -16,13 +16,13 @@ pub fn cell(cell: &Option<Vec<u8>>) -> String {
 }
 
 /// Bytes as a screen may have them: `?` for a control byte, one of ASCII's or the second of a letter from U+0080 to U+009F, and for a
-/// byte from 128 to 159 behind ASCII, which begins no letter.
+/// byte from 128 to 159 behind what shows as ASCII, which begins no letter.
 pub fn shown(bytes: &[u8]) -> Vec<u8> {
-    let before = std::iter::once(&0).chain(bytes);
-    let one = |(before, byte): (&u8, &u8)| match byte {
-        byte if byte.is_ascii_control() => b'?',
-        0x80..=0x9f if before.is_ascii() || *before == 0xc2 => b'?',
-        byte => *byte,
-    };
-    before.zip(bytes).map(one).collect()
+    let mut shown: Vec<u8> = Vec::new();
+    for byte in bytes {
+        let before = shown.last().copied().unwrap_or(0);
+        let control = byte.is_ascii_control() || ((0x80..=0x9f).contains(byte) && (before.is_ascii() || before == 0xc2));
+        shown.push(if control { b'?' } else { *byte });
+    }
+    shown
 }

@@ -3,10 +3,11 @@
 //! A run pushes one batch many times and drops batches as they complete. Memory is not cleared between pushes: the port's pool, slots
 //! and books are warm, and so is what the Rust's allocator gives again. `memcpy` copies the bytes that a push moves, to warm memory.
 //! `speed [ROUNDS [NAME]]`: the rows whose name has NAME in it; times are of this machine, ratios travel better. The last rows are of the
-//! port alone: batches read back by the crate, and calls with many live buffers.
+//! port alone: batches read back by the crate, and calls with many live buffers; those of the strip stand beside a plain loop over the same memory.
 
 mod crowd;
 mod reading;
+mod taking;
 
 use judge::{Judge, JudgeBuffer, JudgeColumn, Prepared, prepare};
 use puffwidget::layout::SetUpSizes;
@@ -185,6 +186,9 @@ fn main() {
     }
     if only.as_ref().is_none_or(|word| "read back".contains(&word[..])) {
         reading::rows(rounds);
+    }
+    if only.as_ref().is_none_or(|word| "taken by the strip".contains(&word[..])) {
+        taking::strips(rounds);
     }
     if only.is_none_or(|word| "live buffers".contains(&word[..])) {
         crowd::lying_in_order(rounds);

@@ -4,12 +4,12 @@ use crate::error::{ColumnFault, Error, ViewFault};
 use crate::{Kind, SetUp};
 use std::fmt;
 
-/// A buffer that was registered.
+/// A buffer that was registered. A number is yours until you let it go; after that it may be somebody else's.
 #[derive(Clone, Copy, PartialEq, Eq, Hash, PartialOrd, Ord, Debug)]
 pub struct BufferNumber(pub u32);
 
 /// Validity: one bit a row from `first_bit` on, least significant first, 1 valid.
-#[derive(Clone, Copy, Debug)]
+#[derive(Clone, Copy)]
 pub struct Validity<'a> {
     /// the bytes that hold the bits
     pub bitmap: &'a [u8],
@@ -19,7 +19,7 @@ pub struct Validity<'a> {
 
 /// A column of a batch: its rows' values one behind the other (views: 16 bytes each), validity if any row may be null, and for
 /// views the buffers that they point into.
-#[derive(Clone, Copy, Debug)]
+#[derive(Clone, Copy)]
 pub struct Column<'a> {
     /// the kind, the set-up's at the column's place
     pub kind: Kind,
@@ -131,6 +131,20 @@ fn check(rows: u32, column: &Column) -> Result<(), ColumnFault> {
     let Some(validity) = column.validity else { return Ok(()) };
     let (bits, wanted) = (8 * validity.bitmap.len() as u64, u64::from(validity.first_bit) + u64::from(rows));
     if rows > 0 && bits < wanted { Err(ColumnFault::ShortBitmap { bits, wanted }) } else { Ok(()) }
+}
+
+impl fmt::Debug for Validity<'_> {
+    fn fmt(&self, f: &mut fmt::Formatter<'_>) -> fmt::Result {
+        f.debug_struct("Validity").field("bitmap_bytes", &self.bitmap.len()).field("first_bit", &self.first_bit).finish()
+    }
+}
+
+impl fmt::Debug for Column<'_> {
+    fn fmt(&self, f: &mut fmt::Formatter<'_>) -> fmt::Result {
+        let mut shown = f.debug_struct("Column");
+        shown.field("kind", &self.kind).field("values_bytes", &self.values.len());
+        shown.field("validity", &self.validity).field("buffers", &self.buffers.len()).finish()
+    }
 }
 
 impl fmt::Debug for Batch {

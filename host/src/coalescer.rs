@@ -2,11 +2,12 @@
 
 use crate::columns::parts::Parts;
 use crate::error::{ColumnFault, Error};
-use crate::layout::SetUpSizes;
+use crate::layout::{SetUpSizes, word};
 use crate::{Batch, BufferNumber, Column, CompletedBatch, Kind, Memory, Refusal, SetUp, TypedColumn, Validity, front};
 use std::fmt;
 
-/// The coalescer, with the memory that the port is lent.
+/// The coalescer, with the memory that the port is lent. A clone takes as much memory again; where the machine has none, the standard library
+/// aborts.
 #[derive(Clone)]
 pub struct BatchCoalescer {
     memory: Memory,
@@ -42,12 +43,14 @@ impl BatchCoalescer {
         debug_assert_eq!(set, Ok(()), "refused only where the state is not of 304 bytes, and this one is");
     }
 
-    /// Lends bytes to views: a copy in the pool, which occupies `capacity` there.
+    /// Lends bytes to views: a copy in the pool, which occupies `capacity` there, under the lowest free number. A number is yours until you
+    /// let it go; after that it may be somebody else's.
     pub fn register_buffer(&mut self, bytes: &[u8], capacity: u32) -> Result<BufferNumber, Refusal> {
         self.memory.register_buffer(bytes, capacity).map(BufferNumber).map_err(Refusal::of)
     }
 
-    /// Lets a buffer go. Rows that were pushed keep their bytes.
+    /// Lets a buffer go. Rows that were pushed keep their bytes. A number is yours until you let it go; after that it may be somebody
+    /// else's.
     pub fn let_go(&mut self, buffer: BufferNumber) -> Result<(), Refusal> {
         self.memory.let_go(buffer.0).map_err(Refusal::of)
     }
@@ -58,7 +61,7 @@ impl BatchCoalescer {
         front::buffer(&self.memory, buffer.0)
     }
 
-    /// Pushes all rows of a batch.
+    /// Pushes all rows of a batch. One of 0 rows is done, and the port looks at nothing of it (01, step 1).
     pub fn push_batch(&mut self, batch: &Batch) -> Result<(), Refusal> {
         self.memory.push_batch(batch.records(), batch.body(), batch.rows()).map_err(Refusal::of)
     }
@@ -66,6 +69,8 @@ impl BatchCoalescer {
     /// Pushes typed columns of equally many rows. Long strings are registered for the push and let go behind it, also where it is
     /// refused. While it lasts they occupy the pool twice over and a byte, so that the port copies them into its blocks and a batch
     /// lists few buffers; a column with over 1 MiB of them occupies its own bytes and is listed as it is.
+    ///
+    /// Columns of 0 rows, and no columns at all (`push(&[])`), are done, and the port looks at nothing of them (01, step 1).
     pub fn push(&mut self, columns: &[&dyn TypedColumn]) -> Result<(), Error> {
         let parts = parts_of(columns)?;
         let mut held = Vec::new();
@@ -140,6 +145,16 @@ impl BatchCoalescer {
     /// The lent memory, to look at.
     pub fn memory(&self) -> &Memory {
         &self.memory
+    }
+
+    /// The lent memory, for a call that changes it.
+    pub(crate) fn memory_mut(&mut self) -> &mut Memory {
+        &mut self.memory
+    }
+
+    /// The most rows of a batch, as the state has them.
+    pub(crate) fn most_rows(&self) -> usize {
+        word(&self.memory.state, 4) as usize
     }
 }
 

@@ -136,8 +136,12 @@ impl<K: View> ViewColumn<K> {
 
     /// One more row.
     pub fn push<S: AsRef<K::Item>>(&mut self, row: Option<S>) {
-        let bytes = row.as_ref().map_or(&[][..], |row| K::bytes(row.as_ref()));
-        match self.view_of(bytes) {
+        self.push_bytes(row.as_ref().map(|row| K::bytes(row.as_ref())));
+    }
+
+    /// The same of plain bytes, which need not be UTF-8.
+    pub(crate) fn push_bytes(&mut self, row: Option<&[u8]>) {
+        match self.view_of(row.unwrap_or_default()) {
             Ok(view) => self.views.extend_from_slice(&view),
             Err(fault) => self.fault = Some(fault),
         }

@@ -3,8 +3,9 @@
 use crate::{Kind, Refusal};
 use std::fmt;
 
-/// Why something was not done. Whatever the error, the coalescer has the rows and buffers that it had.
-#[derive(Clone, Copy, PartialEq, Eq, Debug)]
+/// Why something was not done. Whatever the error, the coalescer has the rows and buffers that it had. Its `Debug` is its sentence, so that
+/// a `main` that answers with it prints that.
+#[derive(Clone, Copy, PartialEq, Eq)]
 #[non_exhaustive]
 pub enum Error {
     /// The port refused the call.
@@ -129,6 +130,12 @@ impl fmt::Display for Error {
             Error::WrongKind { is, asked } => write!(f, "the column is of kind {is:?}, and was read as {asked:?}"),
             Error::View(fault) => fault.fmt(f),
         }
+    }
+}
+
+impl fmt::Debug for Error {
+    fn fmt(&self, f: &mut fmt::Formatter<'_>) -> fmt::Result {
+        fmt::Display::fmt(self, f)
     }
 }
 

@@ -76,10 +76,11 @@ pub struct Reader<'a> {
 }
 
 impl<'a> Reader<'a> {
-    /// Reads the set-up out of the state.
+    /// Reads the set-up out of the state: its numbers and the kinds of its columns. Nothing else is looked at here, neither the lengths of
+    /// slots, pool and books nor what they hold.
     ///
     /// # Panics
-    /// If the state is not that of a set-up.
+    /// If the state has not the bytes of the words that are read, or a column's kind is none of 1 to 19.
     pub fn new(memory: &'a Memory) -> Reader<'a> {
         let at = |i: usize| word(&memory.state, 4 * i) as usize;
         let kinds = (0..at(3)).map(|c| Kind::of(at(12 + 4 * c) as u32).expect("a kind")).collect();
@@ -122,7 +123,10 @@ impl<'a> Reader<'a> {
         (self.state(14 + 4 * c) == 1).then(|| self.state(15 + 4 * c) as u32)
     }
 
-    /// A buffer's entry.
+    /// A buffer's entry; of a free number zeros.
+    ///
+    /// # Panics
+    /// If the books have no 20 bytes at that number's place. Of a number past N, words that are no entry may be answered.
     pub fn entry(&self, number: u32) -> Entry {
         let at = |i: usize| word(&self.memory.books, 4 + 20 * number as usize + 4 * i);
         Entry { start: at(0) as usize, capacity: at(1) as usize, length: at(2) as usize, hold: at(3), listings: at(4) }

@@ -48,6 +48,8 @@
 //! # }
 //! ```
 //!
+//! A [`Strip`] reads the batches of a match and keeps who is out; its page has a match.
+//!
 //! A column that is too short for its rows makes no batch: its rows never reach into the next column.
 //!
 //! ```
@@ -67,9 +69,13 @@ mod error;
 mod front;
 mod kind;
 pub mod layout;
+mod match_rows;
 pub mod memory;
 mod refusal;
+mod row_refusal;
 mod set_up;
+mod strip;
+mod strip_sys;
 mod sys;
 
 pub use batch::{Batch, BufferNumber, Column, Validity, inline_view, long_view};
@@ -78,6 +84,9 @@ pub use columns::*;
 pub use completed::{CompletedBatch, CompletedColumn};
 pub use error::{ColumnFault, Error, ViewFault};
 pub use kind::{Kind, Primitive, View, kinds};
+pub use match_rows::MatchRows;
 pub use memory::{Memory, RowAnswer};
 pub use refusal::Refusal;
+pub use row_refusal::RowRefusal;
 pub use set_up::SetUp;
+pub use strip::{Event, Side, Strip, Taken};

@@ -56,7 +56,7 @@ pub enum RowAnswer {
 }
 
 /// Zeros, or the word that the machine has no memory for them. Pages that the port never writes are never taken.
-fn zeros(bytes: usize) -> Result<Vec<u8>, Error> {
+pub(crate) fn zeros(bytes: usize) -> Result<Vec<u8>, Error> {
     let none = Error::NoMemory { bytes };
     let layout = Layout::array::<u8>(bytes).map_err(|_| none)?;
     if bytes == 0 {
@@ -82,6 +82,12 @@ fn split(answer: u64) -> Result<u32, u32> {
 /// A number as a result: 0 is done.
 fn done(number: u32) -> Result<(), u32> {
     if number == 0 { Ok(()) } else { Err(number) }
+}
+
+/// An empty strip in 972 bytes; 1 where there are others.
+pub(crate) fn strip_new(strip: &mut [u8]) -> Result<(), u32> {
+    // Safety: pointer and length are of one slice.
+    done(unsafe { sys::pw_strip_new(strip.as_mut_ptr(), strip.len()) })
 }
 
 macro_rules! call {
@@ -123,7 +129,7 @@ impl Memory {
         split(call!(pw_next_completed_batch, self, [state as_mut_ptr, slots as_ptr, pool as_ptr, books as_mut_ptr]))
     }
 
-    /// Lends bytes to views: their number.
+    /// Lends bytes to views: their number, the lowest that is free. It is yours until you let it go; after that it may be somebody else's.
     pub fn register_buffer(&mut self, bytes: &[u8], capacity: u32) -> Result<u32, u32> {
         split(call!(
             pw_register_buffer, self, [state as_ptr, slots as_ptr, pool as_mut_ptr, books as_mut_ptr],
@@ -131,7 +137,7 @@ impl Memory {
         ))
     }
 
-    /// Lets a buffer go.
+    /// Lets a buffer go; its number may then be somebody else's.
     pub fn let_go(&mut self, buffer: u32) -> Result<(), u32> {
         done(call!(pw_let_go, self, [state as_ptr, slots as_ptr, pool as_ptr, books as_mut_ptr], buffer))
     }
@@ -171,6 +177,23 @@ impl Memory {
     /// its list length and the bytes of a row (u32 each). 13 where nothing is queued.
     pub fn front_batch(&self, out: &mut [u8; 512]) -> Result<u32, u32> {
         split(call!(pw_front_batch, self, [state as_ptr, slots as_ptr, pool as_ptr, books as_ptr], out.as_mut_ptr(), out.len()))
+    }
+
+    /// Reads the rows of the front batch into the 972 bytes of a strip, and each row's number, 0 where it was accepted, to the front of
+    /// `numbers`: how many rows.
+    pub fn strip_read(&self, strip: &mut [u8], numbers: &mut [u8]) -> Result<u32, u32> {
+        split(call!(
+            pw_strip_read, self, [state as_ptr, slots as_ptr, pool as_ptr, books as_ptr],
+            strip.as_mut_ptr(), strip.len(), numbers.as_mut_ptr(), numbers.len()
+        ))
+    }
+
+    /// The same, and drops the batch.
+    pub fn strip_take(&mut self, strip: &mut [u8], numbers: &mut [u8]) -> Result<u32, u32> {
+        split(call!(
+            pw_strip_take, self, [state as_mut_ptr, slots as_ptr, pool as_ptr, books as_mut_ptr],
+            strip.as_mut_ptr(), strip.len(), numbers.as_mut_ptr(), numbers.len()
+        ))
     }
 
     /// What a row of the front batch is and where it stands.

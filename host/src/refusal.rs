@@ -6,34 +6,36 @@ use std::fmt;
 #[derive(Clone, Copy, PartialEq, Eq, Hash, PartialOrd, Ord, Debug)]
 #[non_exhaustive]
 pub enum Refusal {
-    /// 1
+    /// 1: set-up outside its bounds, or lent memory not of the set-up lengths
     SetUp,
-    /// 2
+    /// 2: the record bytes are not 32 for each column
     RecordBytes,
-    /// 3
+    /// 3: the batch has more rows than a slot
     TooManyRows,
-    /// 4
+    /// 4: a record of the wrong kind, or against its rules
     Record,
-    /// 5
+    /// 5: values, bitmap or list lie outside the body
     OutsideBody,
-    /// 6
+    /// 6: a listed buffer is not held by the caller
     NotHeld,
-    /// 7
+    /// 7: a view is not valid
     InvalidView,
-    /// 8
+    /// 8: a copied row would start past 4,294,967,295
     StartPastRange,
-    /// 9
+    /// 9: the queue is full
     QueueFull,
-    /// 10
+    /// 10: a list of buffers would be too long
     ListFull,
-    /// 11
+    /// 11: no buffer number is free
     NoNumber,
-    /// 12
+    /// 12: no gap of the pool has the room wanted
     NoRoom,
-    /// 13
+    /// 13: no such row or buffer, or it is not the caller's to let go, or its capacity is below its length
     NotThere,
-    /// 14
+    /// 14: the state is out of range
     State,
+    /// 30: the batch has other columns than the strip reads; none of it was read
+    OtherColumns,
     /// A number that this version of the crate has no name for.
     Unknown(u32),
 }
@@ -81,6 +83,8 @@ const ALL: &[Row] = &[
         "read rows and buffers that are there, let a buffer go once, and register a capacity of at least the length"),
     row(14, Refusal::State, "the state is out of range",
         "the lent memory was overwritten or is of another moment: set up anew and push the rows again"),
+    row(30, Refusal::OtherColumns, "the batch has other columns than the strip reads; none of it was read",
+        "set the coalescer up with the strip's columns: row number UInt64, side UInt8, event UInt8, name Utf8View"),
 ];
 
 impl Refusal {

@@ -1,9 +1,10 @@
 //! What set-up fixes, and its bounds (01, "Lent memory").
 
 use crate::{Error, Kind};
+use std::fmt;
 
 /// What set-up fixes. The fields are open; [`crate::BatchCoalescer::new`] tests their bounds before it takes memory.
-#[derive(Clone, PartialEq, Eq, Debug)]
+#[derive(Clone, PartialEq, Eq)]
 pub struct SetUp {
     /// the columns' kinds, 0 to 16 of them
     pub kinds: Vec<Kind>,
@@ -43,5 +44,13 @@ impl SetUp {
         within("queue", self.queue as usize, 1, 1_024)?;
         within("lists", self.lists as usize, 1, 1_024)?;
         within("numbers", self.numbers as usize, 1, 65_536)
+    }
+}
+
+impl fmt::Debug for SetUp {
+    fn fmt(&self, f: &mut fmt::Formatter<'_>) -> fmt::Result {
+        let mut shown = f.debug_struct("SetUp");
+        shown.field("columns", &self.kinds.len()).field("target", &self.target).field("rows", &self.rows).field("queue", &self.queue);
+        shown.field("lists", &self.lists).field("numbers", &self.numbers).field("pool", &self.pool).finish()
     }
 }

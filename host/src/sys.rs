@@ -1,4 +1,7 @@
-//! The C layer's functions as docs/HOST.md has them: a slice crosses as a pointer and then a length in bytes.
+//! The C layer's functions as docs/HOST.md has them: a slice crosses as a pointer and then a length in bytes. Those of the strip stand
+//! in `strip_sys`.
+
+pub use crate::strip_sys::*;
 
 unsafe extern "C" {
     #[rustfmt::skip]

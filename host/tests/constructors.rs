@@ -152,11 +152,14 @@ fn a_view_of_the_wrong_form_is_refused() {
     assert_eq!(long_view(&text, 2, 27, 13).unwrap(), *b"\x0d\0\0\0aaaa\x02\0\0\0\x1b\0\0\0");
 }
 
+/// A number of a set-up.
+type Place = fn(&mut SetUp) -> &mut u32;
+
 /// Every bound from both sides, and both far outside, before any memory is taken.
 #[test]
 fn set_up_outside_its_bounds_is_refused_by_name() {
     let good = SetUp { rows: 10, queue: 1, lists: 1, numbers: 1, pool: 0, ..SetUp::new(&[Kind::UInt8], 10) };
-    let change: [(&str, fn(&mut SetUp) -> &mut u32, u32, u32); 5] = [
+    let change: [(&str, Place, u32, u32); 5] = [
         ("target", |s| &mut s.target, 1, 10),
         ("rows", |s| &mut s.rows, 10, 65_536),
         ("queue", |s| &mut s.queue, 1, 1_024),
@@ -199,4 +202,50 @@ fn what_is_shown_for_debugging_is_counts() {
     assert!(format!("{coalescer:?}").len() < 300);
     let batch = coalescer.next_completed_batch().unwrap().unwrap();
     assert!(format!("{batch:?} {numbers:?} {names:?} {:?}", Batch::default()).len() < 500);
+}
+
+#[test]
+fn what_is_lent_and_a_set_up_are_shown_by_counts() {
+    let (values, bitmap, buffers) = (vec![7; 1 << 20], vec![0xff; 1 << 17], vec![BufferNumber(u32::MAX); 1 << 16]);
+    let validity = Validity { bitmap: &bitmap, first_bit: u32::MAX };
+    let column = Column { kind: Kind::Decimal128, values: &values, validity: Some(validity), buffers: &buffers };
+    let most = u32::MAX;
+    let kinds = vec![Kind::Decimal256; 1 << 16];
+    let set_up = SetUp { kinds, target: most, rows: most, queue: most, lists: most, numbers: most, pool: most };
+    for shown in [format!("{validity:?}"), format!("{column:?}"), format!("{set_up:?}")] {
+        assert!(shown.len() < 300, "{} bytes", shown.len());
+    }
+    assert_eq!(format!("{validity:?}"), "Validity { bitmap_bytes: 131072, first_bit: 4294967295 }");
+    assert!(format!("{column:?}").starts_with("Column { kind: Decimal128, values_bytes: 1048576, validity: Some("));
+    assert!(format!("{set_up:?}").starts_with("SetUp { columns: 65536, target: 4294967295,"));
+}
+
+/// `fn main() -> Result<(), Error>` prints the error for debugging.
+#[test]
+fn an_error_is_shown_by_its_sentence() {
+    let errors = [Error::Refused(Refusal::QueueFull), Error::NoMemory { bytes: 9 }, Error::View(ViewFault::Inline)];
+    for error in errors {
+        assert_eq!(format!("{error:?}"), error.to_string());
+    }
+    assert!(format!("{:?}", errors[0]).starts_with("refused (9): the queue is full; "));
+}
+
+/// 0 rows are done, whatever the columns are (01, step 1).
+#[test]
+fn a_push_of_no_rows_is_done() {
+    let mut coalescer = BatchCoalescer::new(&SetUp::new(&[Kind::UInt64], 4)).unwrap();
+    assert_eq!(coalescer.push(&[]), Ok(()));
+    assert_eq!(coalescer.push(&[&StringColumn::new(), &UInt8Column::new()]), Ok(()));
+    assert!(coalescer.is_empty());
+}
+
+/// A number that was let go is given anew.
+#[test]
+fn a_number_is_the_callers_until_it_is_let_go() {
+    let mut coalescer = BatchCoalescer::new(&SetUp::new(&[Kind::Utf8View], 4)).unwrap();
+    let first = coalescer.register_buffer(b"Asha", 4).unwrap();
+    coalescer.let_go(first).unwrap();
+    let second = coalescer.register_buffer(b"Lata", 4).unwrap();
+    assert_eq!(first, second);
+    assert_eq!(coalescer.read_buffer(first).unwrap(), b"Lata");
 }

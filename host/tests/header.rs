@@ -1,6 +1,6 @@
-//! Holds include/puffwidget.h, host/src/sys.rs and docs/HOST.md to the exported functions of the crates: names, order and types.
+//! Holds include/puffwidget.h, host/src/sys.rs with strip_sys.rs, and docs/HOST.md to the exported functions of the crates: names, order and types.
 
-use puffwidget::Kind;
+use puffwidget::{Kind, Refusal, RowRefusal};
 use std::collections::BTreeMap;
 use std::fs;
 use std::path::PathBuf;
@@ -97,7 +97,8 @@ fn the_header_has_the_exported_functions() {
 
 #[test]
 fn the_crate_declares_the_exported_functions() {
-    assert_eq!(functions(&text("host/src/sys.rs"), rust_answer, rust_parameter), exported());
+    let declared = functions(&[text("host/src/sys.rs"), text("host/src/strip_sys.rs")].concat(), rust_answer, rust_parameter);
+    assert_eq!(declared, exported());
 }
 
 #[test]
@@ -116,4 +117,16 @@ fn the_header_has_the_kinds_in_order() {
     let name = |one: &str| one.trim().trim_end_matches(" = 1").replace("PW_", "").replace('_', "");
     let wanted = (1..=19).map(|number| format!("{:?}", Kind::of(number).unwrap()).to_uppercase());
     assert!(inside.split(',').map(name).eq(wanted), "{inside}");
+}
+
+#[test]
+fn the_header_has_the_refusals_by_name_and_number() {
+    let header = text("include/puffwidget.h");
+    let (_, behind) = header.split_once("enum pw_refused {").expect("the refusals");
+    let (inside, _) = behind.split_once('}').expect("an end");
+    let told = inside.split(',').map(|one| one.trim().replace("PW_REFUSED_", "").replace('_', ""));
+    let line = |name: String, number: u32| format!("{} = {number}", name.to_uppercase());
+    let calls = Refusal::all().map(|refusal| line(format!("{refusal:?}"), refusal.number()));
+    let rows = RowRefusal::all().map(|refusal| line(format!("{refusal:?}"), refusal.number()));
+    assert!(told.eq(calls.chain(rows)), "{inside}");
 }

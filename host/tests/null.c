@@ -9,7 +9,7 @@
     } while (0)
 
 int main(void) {
-    uint8_t state[PW_STATE_BYTES], books[4 + 20 * 1 + 4 * 1 * 2], row[PW_ROW_BYTES];
+    uint8_t state[PW_STATE_BYTES], books[4 + 20 * 1 + 4 * 1 * 2], row[PW_ROW_BYTES], front[PW_FRONT_BYTES], strip[PW_STRIP_BYTES];
 #define MEMORY state, sizeof state, EMPTY, EMPTY, books, sizeof books
     MUST(pw_new(MEMORY, EMPTY, 1, 1, 1, 1, 1), 0);
     MUST(pw_push_batch(MEMORY, EMPTY, EMPTY, 1), 0);
@@ -20,7 +20,10 @@ int main(void) {
     MUST(pw_read_buffer(MEMORY, 0, EMPTY), 0);
     MUST(pw_buffer_refusal(MEMORY, 0), 0);
     MUST(pw_read_row(MEMORY, 0, 0, row, sizeof row), 13);
+    MUST(pw_front_batch(MEMORY, front, sizeof front), 1);
     MUST(pw_let_go(MEMORY, 0), 0);
+    MUST(pw_strip_new(strip, sizeof strip), 0);
+    MUST(PW_REFUSAL(pw_strip_take(MEMORY, EMPTY, EMPTY)), PW_REFUSED_SET_UP);
     MUST(pw_next_completed_batch(MEMORY), 1);
 
     /* no state, no books: refused with 1, or answered as of a state of zeros */
@@ -39,6 +42,10 @@ int main(void) {
     MUST(pw_get_buffered_rows(EMPTY), 0);
     MUST(pw_has_completed_batch(EMPTY), 0);
     MUST(pw_is_empty(EMPTY), 1);
-    puts("NULL with length 0: 25 calls answered");
+    MUST(PW_REFUSAL(pw_front_batch(NOTHING, EMPTY)), 1);
+    MUST(pw_strip_new(EMPTY), 1);
+    MUST(PW_REFUSAL(pw_strip_read(NOTHING, strip, sizeof strip, EMPTY)), 1);
+    MUST(PW_REFUSAL(pw_strip_take(NOTHING, strip, sizeof strip, EMPTY)), 1);
+    puts("NULL with length 0: 32 calls answered");
     return 0;
 }
