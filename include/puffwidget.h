@@ -33,7 +33,14 @@ extern "C" {
 #define PW_REFUSAL(answer) ((uint32_t)((uint64_t)(answer) >> 32))
 #define PW_VALUE(answer) ((uint32_t)((uint64_t)(answer) & UINT32_MAX))
 
-/* The kinds of columns, a word each in `kinds` and in a record. */
+/* The kinds of columns, a word each in `kinds` and in a record. The bytes of a row:
+ *     1   PW_INT8, PW_UINT8
+ *     2   PW_INT16, PW_UINT16, PW_FLOAT16
+ *     4   PW_INT32, PW_UINT32, PW_FLOAT32, PW_DATE32
+ *     8   PW_INT64, PW_UINT64, PW_FLOAT64, PW_DATE64, PW_TIMESTAMP, PW_DURATION
+ *     16  PW_DECIMAL128, PW_UTF8_VIEW, PW_BINARY_VIEW
+ *     32  PW_DECIMAL256
+ */
 enum pw_kind {
     PW_INT8 = 1, PW_INT16, PW_INT32, PW_INT64, PW_UINT8, PW_UINT16, PW_UINT32, PW_UINT64, PW_FLOAT16, PW_FLOAT32,
     PW_FLOAT64, PW_DATE32, PW_DATE64, PW_TIMESTAMP, PW_DURATION, PW_DECIMAL128, PW_DECIMAL256, PW_UTF8_VIEW, PW_BINARY_VIEW

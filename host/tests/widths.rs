@@ -1,5 +1,5 @@
-//! Holds what a reader sees of the kinds and their widths, the arms of `kinds::width_of` with the names behind them and the table of docs/LAYOUT.md, to `Kind`.
-//! The widths of the arms are proved; no proof reads a comment or a page.
+//! Holds what a reader sees of the kinds and their widths to `Kind`: the arms of `kinds::width_of` with the names behind them, the table of docs/LAYOUT.md,
+//! the comment of include/puffwidget.h. The widths of the arms are proved; no proof reads a comment or a page.
 
 use puffwidget::Kind;
 use std::fs;
@@ -21,8 +21,11 @@ fn text(path: &str) -> String {
 /// Numbers and ranges, as `4 | 8 | 13..=15`: `between` stands between two of them, `through` between a range's first and last.
 fn numbers(listed: &str, between: char, through: &str) -> Vec<u32> {
     let number = |one: &str| one.trim().parse::<u32>().unwrap_or_else(|_| panic!("{listed}: no number"));
-    let all = listed.split(between).map(|one| one.split_once(through).map_or((number(one), number(one)), |(low, high)| (number(low), number(high))));
-    all.flat_map(|(low, high)| low..=high).collect()
+    let range = |one: &str| match one.split_once(through) {
+        Some((low, high)) => number(low)..=number(high),
+        None => number(one)..=number(one),
+    };
+    listed.split(between).flat_map(range).collect()
 }
 
 fn group(width: &str, numbers: Vec<u32>, names: &str) -> Group {
@@ -36,7 +39,11 @@ fn by_width() -> Vec<Group> {
     widths.sort();
     widths.dedup();
     let of = |width: usize| kinds.iter().filter(move |kind| kind.width() == width);
-    let grouped = |width| Group { width, numbers: of(width).map(|kind| kind.number()).collect(), names: of(width).map(|kind| format!("{kind:?}")).collect() };
+    let grouped = |width| Group {
+        width,
+        numbers: of(width).map(|kind| kind.number()).collect(),
+        names: of(width).map(|kind| format!("{kind:?}")).collect(),
+    };
     widths.into_iter().map(grouped).collect()
 }
 
@@ -60,4 +67,17 @@ fn the_page_groups_the_kinds_and_names_them() {
         group(cells[0], numbers(cells[1], ',', " to "), cells[2])
     });
     assert_eq!(told.collect::<Vec<_>>(), by_width());
+}
+
+#[test]
+fn the_header_groups_the_kinds_by_name() {
+    let header = text("include/puffwidget.h");
+    let (_, behind) = header.split_once("The bytes of a row:\n").expect("the widths");
+    let (lines, _) = behind.split_once(" */").expect("an end");
+    let told = lines.lines().map(|line| {
+        let (width, names) = line.trim_start_matches([' ', '*']).split_once(' ').expect("a width and names");
+        (width.parse().expect("a width"), names.replace("PW_", "").replace(['_', ' '], ""))
+    });
+    let wanted = by_width().into_iter().map(|group| (group.width, group.names.join(",").to_uppercase()));
+    assert_eq!(told.collect::<Vec<(usize, String)>>(), wanted.collect::<Vec<_>>());
 }
