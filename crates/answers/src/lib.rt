@@ -1,9 +1,11 @@
 // What calls of the coalescer answer, as plain numbers: an answer of two numbers, the counts, and a cell with the bytes that it names. Said
 // once for the libraries that print them.
+#![tactic(auto)]
+
 ghost use Rattle.std.specs.Prelude.{◌*◌, ◌≡◌, length};
 
 // An answer of two numbers: that of the refusal, or 0, and the value. Of a limit, 1 where one is set, and its rows.
-#[derive(Drop)]
+#[derive(Clone, Copy)]
 pub struct Answer {
     pub number: u32,
     pub value: u32,
@@ -25,7 +27,7 @@ pub fn refused(number: u32) -> u64
 }
 
 // What the state says between calls: rows buffered, batches queued, the two flags, and the limit.
-#[derive(Drop)]
+#[derive(Clone, Copy)]
 pub struct Counts {
     pub buffered: u32,
     pub queued: u32,
@@ -36,7 +38,7 @@ pub struct Counts {
 
 // A cell of the front batch: the refusal of its read, or 0; then whether it is null (0), in its row (1) or in a buffer (2), the place in the
 // slots or the buffer's number, the offset in the buffer, and the length.
-#[derive(Drop)]
+#[derive(Clone, Copy)]
 pub struct Cell {
     pub refusal: u32,
     pub kind: u32,

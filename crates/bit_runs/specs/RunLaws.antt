@@ -51,7 +51,7 @@ whole-moved d k s start first m e g =
 any_place : (t : List ℕ) (a a' : ℕ) (b : ℕ → ℕ) (n : ℕ) → (0 < n → a ≡ a') → appended t a b n ≡ appended t a' b n
 unfolding appended
 any_place t a a' b zero h = refl
-any_place t a a' b (suc n) h = let q : a ≡ a' = h (omega arith) in rw q
+any_place t a a' b (suc n) h = let q : a ≡ a' = h (omega arith) in ap (λ (x : ℕ). appended t x b (suc n)) q
 
 pub parts : (d : List ℕ) (at : ℕ) (b b₁ b₂ : ℕ → ℕ) (n c : ℕ) {t₁ t₂ t₃ : List ℕ}
     → ((j : ℕ) → b₁ j ≡ b (c + j)) → ((j : ℕ) → b₂ j ≡ b (c + 8 * ((n - c) / 8) + j)) → c ≡ head_bits at n

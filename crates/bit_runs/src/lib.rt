@@ -1,4 +1,6 @@
 // Runs of bits appended: up to the next whole byte, a byte at a time, and the rest.
+#![tactic(auto)]
+
 ghost use Rattle.std.specs.Prelude.{◌≡◌, ◌+◌, ◌*◌, ◌≤◌, ◌<◌, ◌^◌, length};
 ghost use Rattle.bits.specs.Bits.{bits_from, ones, appended, head_bits};
 

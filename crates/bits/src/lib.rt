@@ -1,4 +1,6 @@
 // Bits in lent bytes, the lowest bit of a byte first: one bit read, and fewer than eight appended inside one byte.
+#![tactic(auto)]
+
 ghost use Rattle.std.specs.Prelude.{◌≡◌, ◌+◌, ◌*◌, ◌/◌, ◌%◌, ◌≤◌, ◌<◌, ◌^◌, length};
 ghost use Rattle.bits.specs.Bits.{bit_in, byte_with, with_bit, bits_from, ones, appended, across, value_of};
 

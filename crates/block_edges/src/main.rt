@@ -1,5 +1,7 @@
 // Runs the block sizes of 01's edges that the table of worked examples leaves, both sides of each, and prints the
 // answers, which are held to the file stdout.
+#![tactic(auto)]
+
 use blocks::BufferSource;
 use counts::ByteSum;
 use libc::STDOUT_FILENO;

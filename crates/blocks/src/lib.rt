@@ -1,5 +1,7 @@
 // Block sizes: how large a block the port opens for copied bytes.
 // From arrow-select 60.0.0, src/coalesce/byte_view.rs: `BufferSource`, by value where the Rust has `&mut self`.
+#![tactic(auto)]
+
 ghost use Rattle.std.specs.Prelude.{◌≡◌, ◌≤◌};
 ghost use Rattle.blocks.specs.Block.{doubled, grown, kept, asked, fresh};
 
@@ -10,13 +12,13 @@ const STARTING_BLOCK_SIZE: u32 = 4096;
 const MAX_BLOCK_SIZE: u32 = 1048576;
 
 // The size that a view column keeps across batches.
-#[derive(Drop)]
+#[derive(Clone, Copy)]
 pub struct BufferSource {
     pub current: ByteCount,
 }
 
 // What an ask gives: the size of the block, and the source with the size that is kept.
-#[derive(Drop)]
+#[derive(Clone, Copy)]
 pub struct NextSize {
     pub source: BufferSource,
     pub size: ByteSum,

@@ -1,12 +1,14 @@
 // The books: an entry for each buffer number, in bytes that the caller lends. `gaps` has the lowest free number and the lowest gap.
 // Stands for what the Rust has in shared `Buffer`s and the heap: 01, "Lent memory".
+#![tactic(auto)]
+
 ghost use Rattle.std.specs.Prelude.{◌≡◌, ◌+◌, ◌*◌, ◌≤◌, length};
 ghost use Rattle.books.specs.Entry.{entry_of, with_entry, is_free};
 
 use counts::{BufferNumber, ByteCount};
 
 // An entry of the books. hold is 1 where the caller holds the buffer, and 0 where not.
-#[derive(Drop)]
+#[derive(Clone, Copy)]
 pub struct Entry {
     pub start: u32,
     pub capacity: ByteCount,
@@ -16,14 +18,14 @@ pub struct Entry {
 }
 
 // A number that was looked for.
-#[derive(Drop)]
+#[derive(Clone, Copy)]
 pub enum Found {
     At(BufferNumber),
     Nothing,
 }
 
 // A start in the pool that was looked for.
-#[derive(Drop)]
+#[derive(Clone, Copy)]
 pub enum Gap {
     Start(u32),
     Nothing,

@@ -1,4 +1,6 @@
 // 01's refusal 14, its part about buffers: "a buffer past the pool or longer than its capacity".
+#![tactic(auto)]
+
 ghost use Rattle.std.specs.Prelude.{◌≡◌, ◌+◌, ◌*◌, ◌≤◌, length};
 ghost use Rattle.pool.specs.Read.{fits_in, in_range};
 

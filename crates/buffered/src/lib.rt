@@ -1,5 +1,7 @@
 // Finishing as a call: the tests of 1 and 14, then each open block joins its list and the slot being filled is queued.
 // From arrow-select 60.0.0, src/coalesce.rs: `BatchCoalescer::finish_buffered_batch`. A call that refuses, by 01's number, changes nothing.
+#![tactic(auto)]
+
 ghost use Rattle.std.specs.Prelude.{◌≡◌};
 ghost use Rattle.state.specs.World.{world};
 ghost use Rattle.rules.specs.Calls.{finish_call};

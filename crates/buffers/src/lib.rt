@@ -1,4 +1,6 @@
 // The calls on the caller's buffers, behind the tests of 1 and 14: registered, let go, read. Added by the port.
+#![tactic(auto)]
+
 ghost use Rattle.std.specs.Prelude.{◌≡◌};
 ghost use Rattle.state.specs.World.{world};
 ghost use Rattle.rules.specs.Calls.{register_call, let_go_call, buffer_number_call, buffer_call};

@@ -1,5 +1,7 @@
 // Columns of views: ideal and actual, the way, and the walk. `view_copies` copies and raises the views.
 // From arrow-select 60.0.0, src/coalesce/byte_view.rs: `InProgressByteViewArray`. These functions know places in memory, and no state.
+#![tactic(auto)]
+
 ghost use Rattle.std.specs.Prelude.{◌≡◌, ◌+◌, ◌*◌, ◌≤◌, ◌<◌, ◌^◌, length};
 ghost use Rattle.rules.specs.Batch.{way_of};
 ghost use Rattle.rules.specs.Copies.{views_at, long_to};
@@ -9,7 +11,7 @@ use counts::{BufferNumber, ByteSum, RowCount};
 use rules::Way;
 
 // What is decided once of a pushed column, `Source` in the Rust: its ideal size, and the way that it goes.
-#[derive(Drop)]
+#[derive(Clone, Copy)]
 pub struct Source {
     pub ideal: ByteSum,
     pub way: Way,
@@ -61,7 +63,7 @@ pub fn way_of(ideal: ByteSum, actual: ByteSum) -> Way
 }
 
 // What the walk takes: so many views, and the bytes of the long ones among them.
-#[derive(Drop)]
+#[derive(Clone, Copy)]
 pub struct Walked {
     pub rows: RowCount,
     pub bytes: ByteSum,
@@ -93,7 +95,7 @@ pub fn walk(body: &[u8], at: usize, n: RowCount, rest: ByteSum) -> Walked
 
 // Where copied views come from and go to: the first view in the body; its list there; the first place in the slots; and the open block:
 // its index in the list, its start in the pool.
-#[derive(Drop)]
+#[derive(Clone, Copy)]
 pub struct Copying {
     pub from: usize,
     pub list: usize,

@@ -1,4 +1,6 @@
 // The calls of a capture made on the four memories, each at one place: what programs that play one know of the C layer.
+#![tactic(auto)]
+
 use answers::{Cell, Counts, refused};
 use capture::Call;
 

@@ -2,6 +2,8 @@
 // stand in crates of their own: `capi_set_up`, `capi_batches`, `capi_buffers`, `capi_reads`, `capi_state`.
 // No function trusts its caller beyond what a slice is: its contract says what it answers and leaves on any bytes. An answer of two numbers is
 // one u64: the refusal in the upper 32 bits, or 0, and the value in the lower.
+#![tactic(auto)]
+
 ghost use Rattle.std.specs.Prelude.{◌≡◌, cond};
 ghost use Rattle.ranges.specs.Tested.{fits_lengths};
 

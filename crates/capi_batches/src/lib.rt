@@ -1,4 +1,6 @@
 // The C layer, batches in and out: push, finish, drop. docs/HOST.md has each signature; capi/specs/Api.antt says what each answers and leaves, on any bytes.
+#![tactic(auto)]
+
 ghost use Rattle.std.specs.Prelude.{◌≡◌};
 ghost use Rattle.rules.specs.Batch.{batch};
 ghost use Rattle.capi.specs.Api.{memory, said, number, both, pushing, finishing, dropping, called};

@@ -1,4 +1,6 @@
 // The C layer, the caller's buffers: registered and let go. docs/HOST.md has each signature; capi/specs/Api.antt says what each answers and leaves, on any bytes.
+#![tactic(auto)]
+
 ghost use Rattle.std.specs.Prelude.{◌≡◌};
 ghost use Rattle.capi.specs.Api.{memory, said, number, both, registering, letting_go, called};
 

@@ -1,4 +1,6 @@
 // The C layer, the front batch whole: its rows, and where its columns stand in the lent slots. docs/HOST.md has the signature.
+#![tactic(auto)]
+
 ghost use Rattle.std.specs.Prelude.{◌≡◌};
 ghost use Rattle.capi.specs.Api.{memory, told};
 ghost use Rattle.capi_front.specs.Front.{front_read};

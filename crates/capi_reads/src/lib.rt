@@ -1,4 +1,6 @@
 // The C layer, reads of a row and of a buffer. docs/HOST.md has each signature; capi/specs/Api.antt says what each answers and leaves, on any bytes.
+#![tactic(auto)]
+
 ghost use Rattle.std.specs.Prelude.{◌≡◌};
 ghost use Rattle.capi.specs.Api.{memory, told, buffer_number, buffer_read, row_in, row_read};
 

@@ -1,4 +1,6 @@
 // The C layer, set-up. docs/HOST.md has its signature; capi/specs/Api.antt says what it answers and leaves, on any bytes.
+#![tactic(auto)]
+
 ghost use Rattle.std.specs.Prelude.{◌≡◌, length};
 ghost use Rattle.capi.specs.Api.{memory, said, asked_for, askable, created};
 

@@ -1,4 +1,6 @@
 // The C layer, the calls on the state alone, which refuse nothing. docs/HOST.md has each signature; capi/specs/Api.antt says what each answers and leaves, on any bytes.
+#![tactic(auto)]
+
 ghost use Rattle.std.specs.Prelude.{◌≡◌};
 ghost use Rattle.capi.specs.Api.{told, limit_set, limit_read, rows_buffered, completed_flag, empty_flag};
 

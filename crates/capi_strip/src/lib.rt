@@ -1,4 +1,6 @@
 // The C layer, the player strip: an archive of its own. docs/HOST.md has each signature; specs/StripApi.antt says what each answers and leaves, on any bytes.
+#![tactic(auto)]
+
 ghost use Rattle.std.specs.Prelude.{◌≡◌};
 ghost use Rattle.outs.specs.Coding.{new_fault, new_leaves};
 ghost use Rattle.capi.specs.Api.{memory, told};

@@ -1,5 +1,7 @@
 // Reads a capture: a list of calls, each behind a small header (docs/HOST.md has the layout). Input that is not one ends it with a line on
 // standard error that says which call and why: no call is made of bytes that did not come.
+#![tactic(auto)]
+
 mod faults;
 mod text;
 
@@ -10,7 +12,7 @@ use libc::STDIN_FILENO;
 pub use text::{end_line, say, show, write};
 
 // How many bytes of each memory are lent.
-#[derive(Drop)]
+#[derive(Clone, Copy)]
 pub struct Lent {
     pub slots: usize,
     pub pool: usize,
@@ -18,7 +20,7 @@ pub struct Lent {
 }
 
 // A call's header: what is called, and its numbers.
-#[derive(Drop)]
+#[derive(Clone, Copy)]
 pub struct Call {
     pub what: u32,
     pub a: u32,
@@ -49,7 +51,7 @@ fn call_at(header: &[u8]) -> Call
 }
 
 // What was read: whether there is a call, where there is none whether that was told, the call, and the lengths of its two runs of bytes.
-#[derive(Drop)]
+#[derive(Clone, Copy)]
 pub struct Fetched {
     pub more: bool,
     pub told: bool,

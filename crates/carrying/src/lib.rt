@@ -1,4 +1,6 @@
 // Bytes copied within the pool, where source and target are both in it: what the Rust does with `Vec::extend_from_slice`.
+#![tactic(auto)]
+
 ghost use Rattle.std.specs.Prelude.{◌≡◌, ◌+◌, ◌≤◌, ◌<◌, length, set};
 ghost use Rattle.pool.specs.Carry.{carried};
 

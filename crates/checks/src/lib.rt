@@ -1,5 +1,7 @@
 // The checks of a pushed batch, 2 to 7 in their order: the first column and row at fault.
 // Added by the port (01, "A pushed batch"); the Rust leaves them to the types of its arrays.
+#![tactic(auto)]
+
 ghost use Rattle.std.specs.Prelude.{◌≡◌, true, [], ◌+◌, ◌*◌, ◌≤◌, ◌<◌, length};
 ghost use Rattle.state.specs.World.{world, column_of};
 ghost use Rattle.rules.specs.Batch.{batch};

@@ -1,6 +1,8 @@
 // Pushing: small batches of rows in, batches of the target size out, in order.
 // From arrow-select 60.0.0, src/coalesce.rs: `BatchCoalescer::push_batch`. The state goes by value; slots, pool and books are
 // lent. A call that refuses, by 01's number, changes nothing.
+#![tactic(auto)]
+
 ghost use Rattle.std.specs.Prelude.{◌≡◌};
 ghost use Rattle.state.specs.World.{world};
 ghost use Rattle.rules.specs.Batch.{batch};

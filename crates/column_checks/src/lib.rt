@@ -1,5 +1,7 @@
 // The checks 4 to 7 of one column of a pushed batch: its rules, where it lies, whether its buffers are held, its first bad row.
 // Added by the port (01, "A pushed batch"); the Rust leaves them to the types of its arrays.
+#![tactic(auto)]
+
 ghost use Rattle.std.specs.Prelude.{◌≡◌, true, ◌+◌, ◌*◌, ◌≤◌, ◌<◌, ◌^◌, length};
 ghost use Rattle.books.specs.Entry.{used_of};
 ghost use Rattle.pool.specs.Register.{is_held};

@@ -1,5 +1,7 @@
 // What is known and decided of one column: the way that a pushed column goes, its list, its block; the state with another block.
 // From arrow-select 60.0.0, src/coalesce/byte_view.rs: `InProgressByteViewArray::set_source`.
+#![tactic(auto)]
+
 ghost use Rattle.std.specs.Prelude.{◌≡◌, [], ◌+◌, ◌*◌, ◌-◌, ◌≤◌, ◌<◌, ◌^◌, length};
 ghost use Rattle.books.specs.Entry.{entry_of};
 ghost use Rattle.state.specs.World.{world};

@@ -1,5 +1,7 @@
 // The front batch dropped, after it was read: its lists unlisted, its counts zero.
 // From arrow-select 60.0.0, src/coalesce.rs: `next_completed_batch`.
+#![tactic(auto)]
+
 ghost use Rattle.std.specs.Prelude.{◌≡◌, ◌+◌, ◌≤◌, ◌<◌, length};
 ghost use Rattle.state.specs.World.{world};
 ghost use Rattle.state.specs.Layout.{books_length};
@@ -14,7 +16,7 @@ use counts::RowCount;
 use state::BatchCoalescer;
 
 // What dropping answers: the state, the number of the refusal or 0, and the rows of the batch.
-#[derive(Drop)]
+#[derive(Clone, Copy)]
 pub struct Dropped {
     pub state: BatchCoalescer,
     pub number: u32,

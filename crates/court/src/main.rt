@@ -1,5 +1,7 @@
 // The main job, to watch: the rows of a match go through the coalescer. Plays the capture on standard input, a batch of the court box at a
 // time; prints each batch that completes as a table, in order, and drops it.
+#![tactic(auto)]
+
 use player::Job;
 
 fn main() {

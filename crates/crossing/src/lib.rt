@@ -1,4 +1,6 @@
 // What crosses the C layer: answers as numbers and as words, the state kept in bytes, bytes copied out, kinds from words. docs/HOST.md has the forms.
+#![tactic(auto)]
+
 ghost use Rattle.std.specs.Prelude.{◌≡◌, cond, [], ◌∷◌, ◌≤◌, ◌/◌, length};
 ghost use Rattle.words.specs.Run.{lay};
 ghost use Rattle.pool.specs.Register.{refusal_of};

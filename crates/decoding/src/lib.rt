@@ -1,5 +1,7 @@
 // The state that coded bytes hold: docs/LAYOUT.md, "State".
 // Bytes that do not code the state that they hold are told apart: a flag that is neither 0 nor 1, or a word that should be zero and is not.
+#![tactic(auto)]
+
 ghost use Rattle.std.specs.Prelude.{◌≡◌, ◌<◌, length};
 ghost use Rattle.codes.specs.Code.{state_bytes, limit_in, block_in, is_flagged, is_coded, column_in, columns_in, state_in, zero_state, decoded};
 

@@ -1,5 +1,7 @@
 // Both sides of each edge of document 01, and each refusal: plays the capture on standard input and prints what every call answers, and the
 // rows of each batch that is dropped. What it must print is said by a model of document 01, written apart from this code (host/runs/model).
+#![tactic(auto)]
+
 use player::Job;
 
 // Room for the slots, the pool, a buffer, and the bytes of a call.

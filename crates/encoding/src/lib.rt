@@ -1,4 +1,6 @@
 // The state as bytes: docs/LAYOUT.md, "State". Every function writes words behind what stands already.
+#![tactic(auto)]
+
 ghost use Rattle.std.specs.Prelude.{◌≡◌, ◌+◌, ◌≤◌, [], ◌∷◌, ◌++◌, length, take};
 ghost use Rattle.codes.specs.Code.{state_bytes, columns_at, bytes_of, limit_words, block_words, column_words, columns_words, set_up_words, count_words, code_of, limited, Words};
 

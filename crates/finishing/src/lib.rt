@@ -1,5 +1,7 @@
 // Finishing: each open block joins its list, and the slot being filled is queued.
 // From arrow-select 60.0.0, src/coalesce.rs: `finish_buffered_batch`.
+#![tactic(auto)]
+
 ghost use Rattle.std.specs.Prelude.{◌≡◌, ◌+◌, ◌≤◌, ◌<◌, length};
 ghost use Rattle.tallies.specs.Tally.{with_tally};
 ghost use Rattle.state.specs.Layout.{books_length, tally, next_slot};

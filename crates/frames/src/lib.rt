@@ -1,4 +1,6 @@
 // What a frame of the player strip shows, laid into lent bytes: two sides, who is out and who comes back next, refused rows.
+#![tactic(auto)]
+
 ghost use Rattle.std.specs.Prelude.{◌≡◌, true, ◌+◌, ◌*◌, ◌≤◌, ◌<◌, length};
 ghost use Rattle.words.specs.Run.{read, put};
 ghost use Rattle.outs.specs.Coding.{is_side, is_strip, last_in, names_in, strip_of};

@@ -1,5 +1,7 @@
 // Where the columns of the front batch stand in the lent slots, for a reader that takes them whole. Added by the port: the tests are made once for a batch,
 // and not once for a row.
+#![tactic(auto)]
+
 ghost use Rattle.std.specs.Prelude.{◌≡◌, [], ◌+◌, ◌*◌, ◌≤◌, ◌<◌, length};
 ghost use Rattle.state.specs.World.{world};
 ghost use Rattle.state.specs.Layout.{queued_slot};
@@ -12,7 +14,7 @@ use counts::RowCount;
 use state::BatchCoalescer;
 
 // The answer: 0 or the number of the refusal, and the rows of the front batch.
-#[derive(Drop)]
+#[derive(Clone, Copy)]
 pub struct Front {
     pub number: u32,
     pub rows: RowCount,

@@ -1,4 +1,6 @@
 // The lowest free number, and the lowest gap in the pool that is long enough.
+#![tactic(auto)]
+
 ghost use Rattle.std.specs.Prelude.{◌≡◌, ◌+◌, ◌*◌, ◌≤◌, ◌<◌, ◌^◌, length};
 ghost use Rattle.books.specs.Entry.{used_of};
 ghost use Rattle.books.specs.Search.{lowest_free, lowest_gap, past_entry, swept_of};

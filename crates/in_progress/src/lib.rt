@@ -1,5 +1,7 @@
 // One column of the slot being filled: a part of a batch copied into it, lists attached.
 // From arrow-select 60.0.0, src/coalesce/byte_view.rs: `InProgressByteViewArray::copy_rows`; src/coalesce/primitive.rs: `copy_rows`.
+#![tactic(auto)]
+
 ghost use Rattle.std.specs.Prelude.{◌≡◌, [], ◌+◌, ◌*◌, ◌-◌, ◌≤◌, ◌<◌, length};
 ghost use Rattle.state.specs.declared.OpenBlock.{OpenBlock};
 ghost use Rattle.state.specs.World.{world, column_of};

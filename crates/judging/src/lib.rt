@@ -1,5 +1,7 @@
 // The tests of a push in order, before anything of it is tried or done.
 // Added by the port (01: "Order for a push: 1, 14, then step 1, then 2, 3, then per column 4, 5, 6, and 7 by rows.").
+#![tactic(auto)]
+
 ghost use Rattle.rules.specs.Batch.{batch};
 ghost use Rattle.judging.specs.Judging.{Judges};
 
@@ -7,7 +9,7 @@ use counts::RowCount;
 use state::BatchCoalescer;
 
 // What the tests of a push say.
-#[derive(Drop)]
+#[derive(Clone, Copy)]
 pub enum Verdict {
     Go,
     Nothing,

@@ -1,10 +1,12 @@
 // The kinds of columns and the width of a row of each: a decision over the kind's number, in which equal widths stand together.
 // Stands for the data types that `create_in_progress_array` of src/coalesce.rs tells apart by `downcast_primitive`.
+#![tactic(auto)]
+
 ghost use Rattle.std.specs.Prelude.{◌≡◌};
 ghost use Rattle.kinds.specs.Kind.{width_at, is_view};
 
 // What 01's table says of a kind: the bytes of one row, or that no kind has the number.
-#[derive(Drop)]
+#[derive(Clone, Copy)]
 pub enum Width {
     Bytes(u32),
     NoKind,

@@ -1,5 +1,7 @@
 // Where things lie in slots and books, and which slot follows which: docs/LAYOUT.md, computed.
 // No function here reads or writes lent memory.
+#![tactic(auto)]
+
 ghost use Rattle.std.specs.Prelude.{◌≡◌, ◌+◌, ◌*◌, ◌-◌, ◌≤◌, ◌<◌};
 ghost use Rattle.state.specs.World.{column_of};
 ghost use Rattle.kinds.specs.Kind.{width_at};

@@ -1,4 +1,6 @@
 // A number listed once more or once less, or let go by the caller; and each number of a list, as often as it stands there.
+#![tactic(auto)]
+
 ghost use Rattle.std.specs.Prelude.{◌≡◌, ◌+◌, ◌*◌, ◌≤◌, length};
 ghost use Rattle.books.specs.Entry.{used_of};
 ghost use Rattle.listings.specs.Listing.{one_more, listed_one, unlisted_one, released, over_list, Listed};

@@ -1,5 +1,7 @@
 // Listings: an entry taken, and freed when nobody holds or lists it any more. `list_changes` lists, unlists and lets go.
 // Stands for the reference counts of the Rust's shared `Buffer`s: 01, "Lent memory".
+#![tactic(auto)]
+
 ghost use Rattle.std.specs.Prelude.{◌≡◌, ◌+◌, ◌*◌, ◌≤◌, ◌<◌, length};
 ghost use Rattle.books.specs.Entry.{used_of};
 ghost use Rattle.listings.specs.Listing.{settled, freed, taken, free_unused};

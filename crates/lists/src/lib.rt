@@ -1,5 +1,7 @@
 // The list of a column of the slot being filled: one number, or the whole list of a record, behind what is listed.
 // From arrow-select 60.0.0, src/coalesce/byte_view.rs: `InProgressByteViewArray::completed`, pushed to and extended.
+#![tactic(auto)]
+
 ghost use Rattle.std.specs.Prelude.{◌≡◌, true, [], ◌+◌, ◌*◌, ◌≤◌, ◌<◌, length};
 ghost use Rattle.words.specs.Word.{with_word32};
 ghost use Rattle.tallies.specs.Tally.{with_tally};

@@ -1,5 +1,7 @@
 // Room for a buffer: the number and the start that it gets, and a block opened there, for good or on trial.
 // Stands for `Vec::with_capacity` in `BufferSource::next_buffer` of src/coalesce/byte_view.rs.
+#![tactic(auto)]
+
 ghost use Rattle.std.specs.Prelude.{◌≡◌, ◌+◌, ◌*◌, ◌≤◌, length};
 ghost use Rattle.books.specs.Entry.{used_of};
 ghost use Rattle.room.specs.Room.{chosen, is_zero, opened_as, opened, tried, Opens};

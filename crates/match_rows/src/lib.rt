@@ -1,5 +1,7 @@
 // A row of the front batch as the strip takes it: 02, K6. Its four values are read through their places in the slot, which are worked out once a
 // batch: no row sees the state.
+#![tactic(auto)]
+
 ghost use Rattle.std.specs.Prelude.{◌≡◌, [], ◌+◌, ◌*◌, ◌≤◌, ◌<◌, length, get_or};
 ghost use Rattle.words.specs.Run.{read};
 ghost use Rattle.match_rows.specs.MatchRow.{is_match};
@@ -11,7 +13,7 @@ use views::View;
 
 // Where the four columns of a match stand in a slot of so many rows: the first value of each, the list of the names' buffers, and how many
 // numbers that list has. The bitmap of a column stands behind its values.
-#[derive(Drop)]
+#[derive(Clone, Copy)]
 pub struct Places {
     pub rows: usize,
     pub numbers: usize,

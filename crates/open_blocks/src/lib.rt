@@ -1,5 +1,7 @@
 // The open block of a column of views: closed, when it joins its list, and opened.
 // From arrow-select 60.0.0, src/coalesce/byte_view.rs: `InProgressByteViewArray::finish_current`, and `BufferSource::next_buffer`.
+#![tactic(auto)]
+
 ghost use Rattle.std.specs.Prelude.{◌≡◌, true, ◌+◌, ◌*◌, ◌≤◌, ◌<◌, length};
 ghost use Rattle.sound.specs.Change.{with_length};
 ghost use Rattle.state.specs.Layout.{is_views};

@@ -1,4 +1,6 @@
 // The player strip of 02, K6, in lent bytes: who is out on each side, the one out longest first. It knows no coalescer.
+#![tactic(auto)]
+
 ghost use Rattle.std.specs.Prelude.{◌≡◌, true, [], ◌∷◌, ◌++◌, ◌+◌, ◌*◌, ◌≤◌, ◌<◌, length, drop};
 ghost use Rattle.std.proofs.Math.Option.{some};
 ghost use Rattle.search.specs.Table.{same};

@@ -1,4 +1,6 @@
 // Plays the capture on standard input: the loop over its calls, for every program that plays one.
+#![tactic(auto)]
+
 mod shown;
 
 use answers::part;
@@ -6,7 +8,7 @@ use capture::{Call, Fetched, Lent};
 use turns::{Turn, Went};
 
 // What a program prints of the calls: the rows as a table (`court`), or a line a call (`edges`, `replay`).
-#[derive(Drop)]
+#[derive(Clone, Copy)]
 pub enum Job {
     Table,
     Telling,

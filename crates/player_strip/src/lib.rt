@@ -1,4 +1,6 @@
 // The player strip of 02, K6, over the coalescer: the front batch read into a strip's bytes, and taken. Added by the port.
+#![tactic(auto)]
+
 ghost use Rattle.std.specs.Prelude.{◌≡◌, true, [], ◌+◌, ◌*◌, ◌≤◌, ◌<◌, length, get_or};
 ghost use Rattle.words.specs.Run.{put};
 ghost use Rattle.state.specs.World.{world};
@@ -16,14 +18,14 @@ use match_rows::Places;
 use state::BatchCoalescer;
 
 // What reading answers: 0 or the number of the refusal, and how many rows were read.
-#[derive(Drop)]
+#[derive(Clone, Copy)]
 pub struct Read {
     pub number: u32,
     pub rows: RowCount,
 }
 
 // What taking answers: the state besides.
-#[derive(Drop)]
+#[derive(Clone, Copy)]
 pub struct Taken {
     pub state: BatchCoalescer,
     pub number: u32,

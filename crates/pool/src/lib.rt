@@ -1,6 +1,8 @@
 // The pool: buffers registered and let go. They are read by `pool_reads`, bytes are copied within it by `carrying`, and 14's part about
 // buffers is `buffer_ranges`.
 // Stands for what the Rust does with `Buffer`: 01, "Lent memory".
+#![tactic(auto)]
+
 ghost use Rattle.std.specs.Prelude.{◌≡◌, ◌+◌, ◌*◌, ◌≤◌, ◌<◌, ◌^◌, length};
 ghost use Rattle.books.specs.Entry.{used_of};
 ghost use Rattle.pool.specs.Register.{registered, Registers, RegistersAt, let_go, LetsGo};
@@ -10,7 +12,7 @@ use counts::{BufferNumber, ByteCount, ByteSum};
 use room::{Chosen, Room};
 
 // What registering answers: the buffer's number, or the number of the refusal.
-#[derive(Drop)]
+#[derive(Clone, Copy)]
 pub enum Registered {
     Number(BufferNumber),
     Refused(u32),

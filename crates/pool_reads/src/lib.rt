@@ -1,4 +1,6 @@
 // Buffers of the pool read: the number of the refusal, and the part that a buffer fills.
+#![tactic(auto)]
+
 ghost use Rattle.std.specs.Prelude.{◌≡◌, ◌+◌, ◌*◌, ◌≤◌, length};
 ghost use Rattle.books.specs.Entry.{used_of};
 ghost use Rattle.pool.specs.Read.{part_of, read_refusal};

@@ -1,6 +1,8 @@
 // Values and validity of a column: runs of bytes and of bits put behind the rows of a slot.
 // From arrow-select 60.0.0, src/coalesce/primitive.rs: `InProgressPrimitiveArray::copy_rows`. Columns of views whose bytes need no change
 // use the same functions. They know places in memory, and no state.
+#![tactic(auto)]
+
 ghost use Rattle.std.specs.Prelude.{◌≡◌, ◌+◌, ◌*◌, length};
 ghost use Rattle.words.specs.Run.{read, lay};
 ghost use Rattle.bits.specs.Bits.{appended};
@@ -11,7 +13,7 @@ use rules::ColumnRecord;
 
 // Which rows go where: `count` rows of the batch from row `from` on, behind the first `at` rows of a column that begins at `place` of the
 // slots.
-#[derive(Drop)]
+#[derive(Clone, Copy)]
 pub struct Rows {
     pub column: u32,
     pub place: usize,

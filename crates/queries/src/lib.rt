@@ -1,5 +1,7 @@
 // The calls on the state alone, which refuse nothing: the limit and its setter, the counts.
 // From arrow-select 60.0.0, src/coalesce.rs: `biggest_coalesce_batch_size` and its setter, `get_buffered_rows`, `has_completed_batch`, `is_empty`.
+#![tactic(auto)]
+
 ghost use Rattle.std.specs.Prelude.{◌≡◌};
 ghost use Rattle.rules.specs.Steps.{with_limit};
 ghost use Rattle.rules.specs.Calls.{limit_of, buffered_count, has_completed, is_empty};

@@ -1,4 +1,6 @@
 // The tests that every call after set-up begins with: 1, the bounds and lengths of set-up; 14, the ranges of the state.
+#![tactic(auto)]
+
 ghost use Rattle.std.specs.Prelude.{◌≡◌, not, [], ◌+◌, ◌*◌, ◌≤◌, ◌<◌, length};
 ghost use Rattle.search.specs.Every.{every};
 ghost use Rattle.books.specs.Entry.{is_free_at};

@@ -1,4 +1,6 @@
 // A column's record of a pushed batch, read from its eight words.
+#![tactic(auto)]
+
 ghost use Rattle.std.specs.Prelude.{◌≡◌, [], ◌+◌, ◌*◌, ◌≤◌, ◌<◌, length};
 ghost use Rattle.rules.specs.Batch.{batch, record_of};
 

@@ -1,5 +1,7 @@
 // Histories whose answers the Rust text was seen to give: plays the capture on standard input and prints what every call answers, and the
 // rows of each batch that is dropped.
+#![tactic(auto)]
+
 use player::Job;
 
 // Room for the pool, and for a buffer.

@@ -1,16 +1,18 @@
 // Room for a buffer: the number and the start that it gets; a block opened there; and a trial that puts the books back. Definitions and
 // laws; the functions are `making_room` and `trial_end`.
+#![tactic(auto)]
+
 use counts::BufferNumber;
 
 // Where a buffer goes: its number and its start in the pool.
-#[derive(Drop)]
+#[derive(Clone, Copy)]
 pub struct Room {
     pub number: BufferNumber,
     pub start: u32,
 }
 
 // What looking for room answers: the room, or the number of the refusal.
-#[derive(Drop)]
+#[derive(Clone, Copy)]
 pub enum Chosen {
     At(Room),
     Refused(u32),

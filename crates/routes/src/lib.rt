@@ -1,5 +1,7 @@
 // What is decided of a push before it is tried or done: of each column, and which way the batch goes.
 // From arrow-select 60.0.0, src/coalesce.rs: the first lines of `push_batch`.
+#![tactic(auto)]
+
 ghost use Rattle.std.specs.Prelude.{◌≡◌, ◌+◌, ◌<◌, [], length};
 ghost use Rattle.state.specs.World.{world};
 ghost use Rattle.rules.specs.Batch.{batch};
@@ -14,7 +16,7 @@ use rules::Way;
 use state::{BatchCoalescer, Limit};
 
 // What is decided of each column of a batch.
-#[derive(Drop)]
+#[derive(Clone, Copy)]
 pub struct Sources {
     pub column: [Source; 16],
 }
@@ -54,7 +56,7 @@ pub fn set_sources(
 }
 
 // Step 2: which way a batch of so many rows goes.
-#[derive(Drop)]
+#[derive(Clone, Copy)]
 pub enum Route {
     Coalesce,
     Whole,

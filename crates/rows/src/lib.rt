@@ -1,4 +1,6 @@
 // A row of the front batch read: null, in its row, or in a buffer. Added by the port.
+#![tactic(auto)]
+
 ghost use Rattle.std.specs.Prelude.{true, ◌≡◌, [], ◌+◌, ◌≤◌, ◌<◌, length};
 ghost use Rattle.views.specs.View.{view_of};
 ghost use Rattle.state.specs.World.{world};

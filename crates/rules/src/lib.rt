@@ -1,9 +1,11 @@
 // Document 01 whole, as definitions in specs/, which the coalescer's functions are proved equal to; and the types that they share
 // with the code. From arrow-select 60.0.0, src/coalesce/byte_view.rs: what `Source` decides.
+#![tactic(auto)]
+
 use state::BatchCoalescer;
 
 // 01: "column records of 32 bytes with no header, eight little-endian u32 words".
-#[derive(Drop)]
+#[derive(Clone, Copy)]
 pub struct ColumnRecord {
     pub kind: u32,
     pub values: u32,
@@ -16,7 +18,7 @@ pub struct ColumnRecord {
 }
 
 // The three ways of a column of views.
-#[derive(Drop)]
+#[derive(Clone, Copy)]
 pub enum Way {
     Copied,
     Attached,
@@ -24,7 +26,7 @@ pub enum Way {
 }
 
 // A fault of a batch: its number, the column and the row where it is (0 where it is none's); number 0 where there is none.
-#[derive(Drop)]
+#[derive(Clone, Copy)]
 pub struct Fault {
     pub number: u32,
     pub column: u32,
@@ -32,7 +34,7 @@ pub struct Fault {
 }
 
 // What a step leaves: the state, and the number of its refusal, or 0.
-#[derive(Drop)]
+#[derive(Clone, Copy)]
 pub struct Step {
     pub state: BatchCoalescer,
     pub number: u32,

@@ -1,5 +1,7 @@
 // The exported functions, each beside what the theorems say of it: a function here makes one call of the C layer, and promises the step that a
 // history on bytes is made of (promise/specs/OnBytes.antt). So a promise of the C layer that says less than the theorems use is refused here.
+#![tactic(auto)]
+
 ghost use Rattle.std.specs.Prelude.{length};
 ghost use Rattle.rules.specs.Batch.{batch};
 ghost use Rattle.capi.specs.Api.{memory, asked_for};

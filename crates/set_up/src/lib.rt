@@ -1,5 +1,7 @@
 // Set-up: the state that is asked for, over memory of its lengths.
 // From arrow-select 60.0.0, src/coalesce.rs: `BatchCoalescer::new`.
+#![tactic(auto)]
+
 ghost use Rattle.std.specs.Prelude.{◌≡◌, ◌<◌, length, replicate};
 ghost use Rattle.rules.specs.Calls.{of_kind, columns_for, new_state, no_state, set_up_call};
 ghost use Rattle.set_up.specs.SetUp.{padded, kind_at, wanted_of, SetsUp};
@@ -10,7 +12,7 @@ use rules::Step;
 use state::{BatchCoalescer, Column, Limit, OpenBlock};
 
 // What set-up is asked for. Kinds past the last column are not read.
-#[derive(Drop)]
+#[derive(Clone, Copy)]
 pub struct Wanted {
     pub target: RowCount,
     pub rows: RowCount,

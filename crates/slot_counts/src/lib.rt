@@ -1,4 +1,6 @@
 // The counts of a slot, where a state has them in the books: its rows, and the length of each column's list. And the next slot to fill.
+#![tactic(auto)]
+
 ghost use Rattle.std.specs.Prelude.{◌≡◌, [], ◌+◌, ◌≤◌, ◌<◌, length};
 ghost use Rattle.tallies.specs.Tally.{tally_of, with_tally};
 ghost use Rattle.state.specs.World.{world};

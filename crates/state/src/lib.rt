@@ -1,25 +1,27 @@
 // The state of the coalescer, by value: what set-up fixed, and what pushes change besides slots, pool and books.
 // From arrow-select 60.0.0, src/coalesce.rs: the fields of `BatchCoalescer`; src/coalesce/byte_view.rs: `buffer_source` and
 // `current` of `InProgressByteViewArray`.
+#![tactic(auto)]
+
 use blocks::BufferSource;
 use counts::{BufferNumber, ByteCount, RowCount};
 
 // The large-batch limit, `biggest_coalesce_batch_size`: 0 is a limit too, so that none stands apart from every number.
-#[derive(Drop)]
+#[derive(Clone, Copy)]
 pub enum Limit {
     Rows(RowCount),
     Unset,
 }
 
 // The block that a view column is filling, `current`.
-#[derive(Drop)]
+#[derive(Clone, Copy)]
 pub enum OpenBlock {
     Closed,
     Number(BufferNumber),
 }
 
 // A column: its kind, the block size that it keeps across batches, and its open block.
-#[derive(Drop)]
+#[derive(Clone, Copy)]
 pub struct Column {
     pub kind: u32,
     pub source: BufferSource,
@@ -28,7 +30,7 @@ pub struct Column {
 
 // The coalescer. target is T, rows R, queue Q, columns how many there are, lists B, numbers N, pool the bytes of the pool;
 // place is the slot being filled, queued how many are queued before it, buffered the rows in it.
-#[derive(Drop)]
+#[derive(Clone, Copy)]
 pub struct BatchCoalescer {
     pub target: RowCount,
     pub rows: RowCount,
@@ -45,14 +47,14 @@ pub struct BatchCoalescer {
 }
 
 // Where the bytes of a row's value are: in its row, from a start in the lent slots on; or in a buffer, from an offset on.
-#[derive(Drop)]
+#[derive(Clone, Copy)]
 pub enum Place {
     InRow(u64, ByteCount),
     InBuffer(BufferNumber, u32, ByteCount),
 }
 
 // What reading a row answers: null, a value and where it is, or the number of the refusal.
-#[derive(Drop)]
+#[derive(Clone, Copy)]
 pub enum RowAnswer {
     Null,
     Value(Place),

@@ -1,5 +1,7 @@
 // The steps of a push, once there is room for all of them: parts copied and finished, or a batch queued whole.
 // From arrow-select 60.0.0, src/coalesce.rs: the body of `push_batch`.
+#![tactic(auto)]
+
 ghost use Rattle.std.specs.Prelude.{◌≡◌, ◌+◌, ◌<◌, [], length};
 ghost use Rattle.state.specs.World.{world, column_of};
 ghost use Rattle.state.specs.Layout.{slots_length};

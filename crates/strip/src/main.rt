@@ -1,5 +1,6 @@
 // The player strip: plays the capture of a match on standard input. Each batch that completes is taken into the strip, and a frame is written: who
 // is out on each side, and who comes back next.
+#![tactic(auto)]
 
 // Room for the strip.
 fn strip_memory() -> [u8; 972] {

@@ -1,5 +1,6 @@
 // Both sides of each edge of the player strip, and each refusal: plays the capture on standard input and prints what every call answers. What it
 // must print is said by a plain queue, written apart from this code (tools/strip_model.py).
+#![tactic(auto)]
 
 // Room for the strip, and for one of another length.
 fn strip_memory() -> [u8; 1024] {

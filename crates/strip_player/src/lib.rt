@@ -1,4 +1,6 @@
 // Plays the capture on standard input for the player strip: each batch that completes is taken into the strip, and a frame is written.
+#![tactic(auto)]
+
 mod frame;
 
 use answers::{Answer, part};

@@ -1,5 +1,7 @@
 // The exported functions of the strip, each beside what the theorems say of it: a function here makes one call of the C layer, and promises the step that a
 // history with a strip is made of (strip_story/specs/SentStrip.antt). So a promise that says less than the theorems use is refused here.
+#![tactic(auto)]
+
 ghost use Rattle.capi.specs.Api.{memory};
 ghost use Rattle.strip_story.specs.SentStrip.{SentStrip, SentRead, SentTake};
 

@@ -1,4 +1,6 @@
 // Plays the capture on standard input and tells what every call answers, those on the strip (15 to 20) among them: for the program `strip_edges`.
+#![tactic(auto)]
+
 mod told;
 
 use answers::part;
@@ -6,7 +8,7 @@ use capture::{Fetched, Lent};
 use turns::{Turn, Went};
 
 // A turn, and how many bytes of the strip and of the rows' answers are lent.
-#[derive(Drop)]
+#[derive(Clone, Copy)]
 pub struct Held {
     pub turn: Turn,
     pub strip: usize,

@@ -1,5 +1,7 @@
 // Prints the rows of a match as a table, batch by batch, and beside it what the box does: for the program `court`. It is handed answers, and
 // sees no memory.
+#![tactic(auto)]
+
 ghost use Rattle.std.specs.Prelude.{◌≤◌};
 
 use answers::Answer;

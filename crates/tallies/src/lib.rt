@@ -1,9 +1,11 @@
 // The counts of each slot, which stand in the books behind the entries: its rows, and the list length of each column.
+#![tactic(auto)]
+
 ghost use Rattle.std.specs.Prelude.{◌≡◌, ◌+◌, ◌*◌, ◌≤◌, length};
 ghost use Rattle.tallies.specs.Tally.{tally_place, tally_of, with_tally};
 
 // Which count: of N buffer numbers and so many columns, the k-th word of a slot. 0 is its rows, c + 1 the list of column c.
-#[derive(Drop)]
+#[derive(Clone, Copy)]
 pub struct Tally {
     pub numbers: u32,
     pub columns: u32,

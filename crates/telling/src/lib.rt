@@ -1,5 +1,7 @@
 // Prints a call of a capture and what it answered, a line a call; and the rows of a batch in hexadecimal. For the programs `edges` and
 // `replay`. It is handed answers: of the memories it sees the books, which it shows, and the bytes that a capture asks to see.
+#![tactic(auto)]
+
 use answers::{Answer, Cell, Counts, word_at};
 use capture::{Call, end_line, say, show, write};
 use libc::STDOUT_FILENO;

@@ -1,5 +1,7 @@
 // The trial of a push: its steps on state and books alone, before the first lent byte is written, with the books put back after it.
 // Added by the port (01: "Room is worked out along the push steps; the first step without it names the number").
+#![tactic(auto)]
+
 ghost use Rattle.std.specs.Prelude.{◌≡◌, ◌+◌, ◌*◌, ◌≤◌, ◌<◌, [], length};
 ghost use Rattle.layout.specs.Few.{Few};
 ghost use Rattle.state.specs.World.{world};

@@ -1,5 +1,7 @@
 // A part of one column on trial: on state and books alone, a block that the push would open marked in the books.
 // Added by the port (01: "Room is worked out along the push steps; the first step without it names the number").
+#![tactic(auto)]
+
 ghost use Rattle.std.specs.Prelude.{◌≡◌, true, ◌+◌, ◌*◌, ◌≤◌, ◌<◌, length};
 ghost use Rattle.state.specs.Layout.{is_views};
 ghost use Rattle.trial_truth.specs.Like.{Buffers, TellsAttached, TellsCompacted, TellsColumn};

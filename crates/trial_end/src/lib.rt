@@ -1,4 +1,6 @@
 // The end of a trial: the books as they were.
+#![tactic(auto)]
+
 ghost use Rattle.std.specs.Prelude.{◌≡◌, ◌+◌, ◌*◌, ◌≤◌, length};
 ghost use Rattle.books.specs.Entry.{used_of};
 ghost use Rattle.room.specs.Trial.{wiped_of, untried};

@@ -1,4 +1,6 @@
 // A turn of a program that plays a capture: what it keeps from one call to the next, the next call, and whether that can be played.
+#![tactic(auto)]
+
 ghost use Rattle.std.specs.Prelude.{◌<◌};
 
 use answers::part;
@@ -6,7 +8,7 @@ use capture::{Fetched, Lent};
 
 // Whether there is more to play, and where there is not whether that was told; the number of the capture's next call; whether a program's own drop
 // was just refused; how many bytes of each memory are lent; whether a set-up was done, and how many calls were refused.
-#[derive(Drop)]
+#[derive(Clone, Copy)]
 pub struct Turn {
     pub more: bool,
     pub told: bool,
@@ -40,7 +42,7 @@ fn none_lent() -> Lent {
 }
 
 // What became of a call: whether the capture goes on, where it does not whether that was told, and whether the call was refused.
-#[derive(Drop)]
+#[derive(Clone, Copy)]
 pub struct Went {
     pub on: bool,
     pub told: bool,

@@ -1,5 +1,7 @@
 // Views copied with their bytes, and views raised behind an attached list.
 // From arrow-select 60.0.0, src/coalesce/byte_view.rs: `InProgressByteViewArray`. These functions know places in memory, and no state.
+#![tactic(auto)]
+
 ghost use Rattle.std.specs.Prelude.{◌≡◌, ◌+◌, ◌*◌, ◌≤◌, ◌<◌, ◌^◌, length};
 ghost use Rattle.pool.specs.Carry.{carried};
 ghost use Rattle.views.specs.View.{raised_by, repointed};

@@ -1,6 +1,8 @@
 // The Arrow Columnar Format's views: 16 bytes a row that show bytes of their own or of a buffer.
 // From arrow-select 60.0.0, src/coalesce/byte_view.rs, which takes views apart by `ByteView` and `MAX_INLINE_VIEW_LEN`.
 // One set of functions serves Utf8View and BinaryView.
+#![tactic(auto)]
+
 ghost use Rattle.std.specs.Prelude.{◌≡◌, ◌+◌, ◌-◌, ◌≤◌, ◌<◌, length};
 ghost use Rattle.views.specs.View.{view_of, with_view, bytes_of, zero_from, is_padded, filled, in_buffer, long_length, raised_by, repointed};
 ghost use Rattle.views.specs.Raise.{Raises};
@@ -12,7 +14,7 @@ use counts::{ByteCount, ByteSum};
 pub const MAX_INLINE_VIEW_LEN: u32 = 12;
 
 // A view's four words. The bytes of an inline view stand in the last three.
-#[derive(Drop)]
+#[derive(Clone, Copy)]
 pub struct View {
     pub length: u32,
     pub prefix: u32,
@@ -21,7 +23,7 @@ pub struct View {
 }
 
 // Where a buffer lies in the pool: its start, the bytes that it occupies, and those that are filled.
-#[derive(Drop)]
+#[derive(Clone, Copy)]
 pub struct Buffer {
     pub start: u32,
     pub capacity: ByteCount,

@@ -1,5 +1,7 @@
 // A batch queued whole: the test of room, its columns laid into the slot being filled, views unchanged, and the slot queued.
 // From arrow-select 60.0.0, src/coalesce.rs: the first lines of `push_batch`, where a large batch goes to `completed` as it is.
+#![tactic(auto)]
+
 ghost use Rattle.std.specs.Prelude.{◌≡◌, ◌+◌, ◌*◌, ◌≤◌, ◌<◌, [], length};
 ghost use Rattle.layout.specs.Few.{Few};
 ghost use Rattle.state.specs.World.{world};

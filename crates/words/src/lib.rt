@@ -1,5 +1,7 @@
 // Bytes of lent memory: little-endian words of 32 bits in them, and runs copied from one slice to another.
 // 01: "eight little-endian u32 words"; "All words little-endian, read as unsigned, as the Rust does."
+#![tactic(auto)]
+
 ghost use Rattle.std.specs.Prelude.{◌≡◌, ◌+◌, ◌≤◌, length};
 ghost use Rattle.words.specs.Word.{word_of, word32, with_word32};
 ghost use Rattle.words.specs.Run.{read, put};
