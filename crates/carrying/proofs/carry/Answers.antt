@@ -1,0 +1,14 @@
+-- `carrying::carry` meets its contract.
+use Prim.Native.Nat.{◌-◌}
+use borrow.Author.Rules.{rules}
+use Rattle.pool.specs.CarryLaws.{carried_none, carried-more, carried-all}
+use Rattle.carrying.proofs.carry.Goals as goal
+
+pub loop-i-init : goal.loop-i-init
+loop-i-init c = search (carried_none, rules)
+
+pub loop-i-preserved : goal.loop-i-preserved
+loop-i-preserved c = search (carried-more, rules)
+
+pub returns : goal.returns
+returns c = search (carried-all, rules)

@@ -1,0 +1,23 @@
+-- `making_room::open_as` meets its contract.
+use native.Mathlib.Omega.{arith}
+use borrow.Author.Rules.{rules}
+use Rattle.room.specs.RoomLaws.{number_room, number_few, capacity_fits, opens_not, opens_at, opens_dirty}
+use Rattle.making_room.proofs.open_as.Goals as goal
+
+pub returns-in_default : goal.returns-in_default
+returns-in_default c = search (opens_not, rules)
+
+pub entry_at-old-requires : goal.entry_at-old-requires
+entry_at-old-requires c = search (number_room, rules)
+
+pub overflow_cast-e : goal.overflow_cast-e
+overflow_cast-e c = let f = c.before in record { fits = capacity_fits _ _ _ _ f.before.before.choose.ensures f.room.given.1 (omega (arith, c.well-formed.1.1.0)) }
+
+pub take_entry-requires : goal.take_entry-requires
+take_entry-requires c = search (number_room, number_few, rules)
+
+pub returns-then-is_zero : goal.returns-then-is_zero
+returns-then-is_zero c = search (opens_at, rules)
+
+pub returns-else-is_zero : goal.returns-else-is_zero
+returns-else-is_zero c = search (opens_dirty, rules)

@@ -1,0 +1,19 @@
+-- `player_strip::take_rows` meets its contract.
+use native.Mathlib.Omega.{arith}
+use borrow.Author.Rules.{rules}
+use Rattle.player_strip.specs.AlongLaws.{along_none, along_more, along_strip, along_numbers}
+use Rattle.outs.specs.TestLaws.{bytes-known}
+use Prim.Native.Nat.{◌-◌}
+use Rattle.player_strip.proofs.take_rows.Goals as goal
+
+pub loop-i-init : goal.loop-i-init
+loop-i-init c = (search rules, search rules, search rules, along_none _ _ _ _ _ _ c.requires.3, bytes-known c.type_inv.slots)
+
+pub take_row-requires : goal.take_row-requires
+take_row-requires c = (c.requires.0, omega (arith, c.requires.1, c.loop-i-test.true), c.loop-i.invariant.3.coded)
+
+pub loop-i-preserved : goal.loop-i-preserved
+loop-i-preserved c = (search rules, search rules, search rules, along_more _ _ _ _ _ _ c.loop-i.invariant.3 c.loop-i.invariant.4 (omega (arith, c.requires.2)) c.take_row.ensures.0 c.take_row.ensures.1, c.loop-i.invariant.4)
+
+pub returns : goal.returns
+returns c = (along_strip _ _ _ _ _ _ c.loop-i.invariant.3 _ c.loop-i.invariant.0 c.loop-i-test.false, along_numbers _ _ _ _ _ _ c.loop-i.invariant.3 _ c.loop-i.invariant.0 c.loop-i-test.false)

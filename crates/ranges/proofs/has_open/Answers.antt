@@ -1,0 +1,13 @@
+-- `ranges::has_open` meets its contract.
+use borrow.Author.Rules.{rules}
+use Rattle.ranges.specs.RangeLaws.{opens-closed, opens_other, opens_here}
+use Rattle.ranges.proofs.has_open.Goals as goal
+
+pub returns-in-Closed : goal.returns-in-Closed
+returns-in-Closed c = search (opens-closed, rules)
+
+pub returns-then-j-k : goal.returns-then-j-k
+returns-then-j-k c = search (opens_here, rules)
+
+pub returns-else-j-k : goal.returns-else-j-k
+returns-else-j-k c = search (opens_other, rules)

@@ -1,0 +1,20 @@
+-- `ranges::slot_in_range` meets its contract.
+use Prim.Native.Nat.{◌-◌}
+use borrow.Author.Rules.{rules}
+use Rattle.ranges.specs.RangeLaws.{lists_none, lists_more, slot_long, slot_fails, slot_done}
+use Rattle.ranges.proofs.slot_in_range.Goals as goal
+
+pub returns-then-s-rows_in : goal.returns-then-s-rows_in
+returns-then-s-rows_in c = search (slot_long, rules)
+
+pub loop-c-init : goal.loop-c-init
+loop-c-init c = search (lists_none, rules)
+
+pub loop-c-preserved : goal.loop-c-preserved
+loop-c-preserved c = search (lists_more, rules)
+
+pub returns-else-list_in_range : goal.returns-else-list_in_range
+returns-else-list_in_range c = search (slot_fails, rules)
+
+pub returns : goal.returns
+returns c = search (slot_done, rules)

@@ -1,0 +1,50 @@
+-- `steps::copy_part` meets its contract.
+use Prim.Native.Nat.{◌-◌}
+use mathlib.Core.Path.{refl}
+use native.Mathlib.Omega.{arith}
+use borrow.Author.Rules.{rules}
+use Rattle.whole.specs.PlaceLaws.{place-fits, place-more}
+use Rattle.steps.specs.PartLaws.{part_few, part_columns, part_slot, part_fits, copied_none, copied_asks, copied_more, copied_stop, copied_all, as_is_asks, copied_as_is}
+use Rattle.steps.proofs.copy_part.Goals as goal
+
+pub values_place-place-requires : goal.values_place-place-requires
+values_place-place-requires c = (search (part_few, rules), search (part_slot, rules), omega arith)
+
+pub loop-c-init : goal.loop-c-init
+loop-c-init c = (omega arith, search (part_columns, rules), refl, refl, refl, search rules, search (copied_none, rules))
+
+pub column_size-place-requires : goal.column_size-place-requires
+column_size-place-requires c = let few = part_few c.requires in (few.rows, few.lists)
+
+pub overflow_add-place : goal.overflow_add-place
+overflow_add-place c = place-fits _ (part_few c.requires) c.requires.run.fit.place c.loop-c-test.true c.loop-c.invariant.5 c.column_size-place.ensures.1
+
+pub copy_as_is-requires : goal.copy_as_is-requires
+copy_as_is-requires c = as_is_asks c.requires c.loop-c.invariant.6 c.loop-c-test.true c.loop-c.invariant.5
+
+pub loop-c-preserved-in-Copied : goal.loop-c-preserved-in-Copied
+loop-c-preserved-in-Copied c = (omega (arith, c.loop-c-test.true), c.loop-c.invariant.1, search rules, search rules, search rules, place-more _ (part_few c.requires) c.requires.run.fit.place c.loop-c-test.true c.loop-c.invariant.5 c.column_size-place.ensures.0, copied_as_is c.requires c.loop-c.invariant.6 c.loop-c-test.true c.loop-c.place (search rules) c.copy_as_is.ensures)
+
+pub copy_column-step-requires : goal.copy_column-step-requires
+copy_column-step-requires c = copied_asks c.requires c.loop-c.invariant.6 c.loop-c-test.true c.loop-c.invariant.5
+
+pub loop-c-preserved : goal.loop-c-preserved
+loop-c-preserved c = (omega (arith, c.loop-c-test.true), c.loop-c.invariant.1, search (c.slots-in_default-1.given, c.loop-c.invariant.2, rules), search (c.pool-1.given, c.loop-c.invariant.3, rules), search (c.books-1.given, c.loop-c.invariant.4, rules), place-more _ (part_few c.requires) c.requires.run.fit.place c.loop-c-test.true c.loop-c.invariant.5 c.column_size-place.ensures.0, copied_more c.requires c.loop-c.invariant.6 c.loop-c-test.true c.loop-c.place c.copy_column-step.ensures c.if-step-eq0.true)
+
+pub shape_of-slots-else-step-eq0 : goal.shape_of-slots-else-step-eq0
+shape_of-slots-else-step-eq0 c = search (c.slots-in_default-1.given, c.loop-c.invariant.2, rules)
+
+pub shape_of-pool-else-step-eq0 : goal.shape_of-pool-else-step-eq0
+shape_of-pool-else-step-eq0 c = search (c.pool-1.given, c.loop-c.invariant.3, rules)
+
+pub shape_of-books-else-step-eq0 : goal.shape_of-books-else-step-eq0
+shape_of-books-else-step-eq0 c = search (c.books-1.given, c.loop-c.invariant.4, rules)
+
+pub returns-else-step-eq0 : goal.returns-else-step-eq0
+returns-else-step-eq0 c = copied_stop c.requires c.loop-c.invariant.6 c.loop-c-test.true c.loop-c.place c.copy_column-step.ensures c.if-step-eq0.false
+
+pub overflow_add-buffered : goal.overflow_add-buffered
+overflow_add-buffered c = omega (arith, part_fits c.requires)
+
+pub returns : goal.returns
+returns c = search (copied_all, rules)

@@ -1,0 +1,13 @@
+-- `whole::next_place` meets its contract.
+use borrow.Author.Rules.{rules}
+use Rattle.whole.specs.PlaceLaws.{place-column, place-fits, place-more}
+use Rattle.whole.proofs.next_place.Goals as goal
+
+pub bounds-s-at : goal.bounds-s-at
+bounds-s-at c = search (place-column, rules)
+
+pub overflow_add-result : goal.overflow_add-result
+overflow_add-result c = search (place-fits, rules)
+
+pub returns : goal.returns
+returns c = search (place-more, rules)
