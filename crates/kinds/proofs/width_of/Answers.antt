@@ -40,7 +40,7 @@ returns-in-16 c = width_arm 16 c.args.kind c.in-16.in-16-own.keys5 (search wide_
 
 pub returns-in-16-2 : goal.returns-in-16-2
 unfolding every width_at kind_of
-returns-in-16-2 c = width_range 16 16 4 single refl _ c.in-16.if-kind-lt16-own.false c.in-16.if-kind-lt20-own.true c.in-16.in_default-own.rest
+returns-in-16-2 c = width_range 16 16 4 single refl _ (omega arith) (omega arith) c.in-16.in_default-own.rest
 
 pub returns-in-4 : goal.returns-in-4
 unfolding width_at kind_of
@@ -48,4 +48,4 @@ returns-in-4 c = width_arm 8 c.args.kind c.in-4.in-4-own.keys4 (search (wide_one
 
 pub returns-in-4-2 : goal.returns-in-4-2
 unfolding every width_at kind_of
-returns-in-4-2 c = width_range 8 1 15 single refl _ c.in-4.if-kind-lt1-own.false c.in-4.if-kind-lt16-own.true c.in-4.in_default-own.rest
+returns-in-4-2 c = width_range 8 1 15 single refl _ (omega arith) (omega arith) c.in-4.in_default-own.rest

@@ -20,7 +20,7 @@ pub try_buffer-requires-else-ideal-rest : goal.try_buffer-requires-else-ideal-re
 try_buffer-requires-else-ideal-rest c = search (closed_most, c.requires, c.list_closed-list.ensures, rules)
 
 pub returns-in-Closed : goal.returns-in-Closed
-returns-in-Closed c = (c.try_buffer.ensures.0, tells_new (trying_roomy c.requires.0) c.requires.1 c.requires.2 c.column_of-block.ensures c.list_closed-list.ensures.0 c.enum_told-1.given.1 c.try_buffer.ensures.1)
+returns-in-Closed c = (c.try_buffer.ensures.0, tells_new (trying_roomy c.requires.0) c.requires.1 c.requires.2 c.column_of-block.ensures c.list_closed-list.ensures.0 c.in-Closed.is c.try_buffer.ensures.1)
 
 pub returns-then-ideal-rest : goal.returns-then-ideal-rest
 returns-then-ideal-rest c = (column-none c.requires.0, tells_fits (trying_roomy c.requires.0) c.requires.1 c.requires.2 c.column_of-block.ensures (search rules) c.rest_of-rest.ensures c.if-ideal-rest.true)
