@@ -26,4 +26,4 @@ pub returns-then-ideal-rest : goal.returns-then-ideal-rest
 returns-then-ideal-rest c = (column-none c.requires.0, tells_fits (trying_roomy c.requires.0) c.requires.1 c.requires.2 c.column_of-block.ensures (search rules) c.rest_of-rest.ensures c.if-ideal-rest.true)
 
 pub returns-else-ideal-rest : goal.returns-else-ideal-rest
-returns-else-ideal-rest c = (c.try_buffer-else-ideal-rest.ensures.0, tells_walked (trying_roomy c.requires.0) c.requires.1 c.requires.2 c.column_of-block.ensures (search (c.block-1.given, rules)) c.rest_of-rest.ensures c.list_closed-list.ensures.0 c.if-ideal-rest.false c.walk-walked.ensures.0 c.try_buffer-else-ideal-rest.ensures.1)
+returns-else-ideal-rest c = (c.try_buffer-else-ideal-rest.ensures.0, tells_walked (trying_roomy c.requires.0) c.requires.1 c.requires.2 c.column_of-block.ensures c.in-Number.is c.rest_of-rest.ensures c.list_closed-list.ensures.0 c.if-ideal-rest.false c.walk-walked.ensures.0 c.try_buffer-else-ideal-rest.ensures.1)
