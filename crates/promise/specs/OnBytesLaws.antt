@@ -34,9 +34,9 @@ use Rattle.invariant.specs.AloneLaws.{new_sixteen}
 use Rattle.invariant.specs.Calls.Tested.{between-tested}
 use Rattle.invariant.specs.Calls.SetUpAfter.{set_up_begins}
 use Rattle.history.specs.Call.{Call, push, finish, drop, register, let_go, limit, read, Did, if_done, front, step, run}
-use Rattle.history.specs.CallLaws.{call_law}
-use Rattle.history.specs.History.{did, in_order_lem}
-use Rattle.history.specs.Reads.{reads_taken}
+use Rattle.history.proofs.CallLaws.{call_law}
+use Rattle.history.proofs.History.{did, in_order_lem}
+use Rattle.history.proofs.RowReads.{reads_taken}
 use Rattle.promise.specs.OnBytes.{
   HoldsWorld,
   Sent,

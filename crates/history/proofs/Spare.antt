@@ -9,7 +9,7 @@ use Rattle.rules.specs.Calls.{Wanted, set_up_call}
 use Rattle.invariant.specs.Holding.{IsSpare, Between}
 use Rattle.invariant.specs.Steps.MoveLaws.{rows-filling, rows_other}
 use Rattle.history.specs.Call.{Call}
-use Rattle.history.specs.History.{did, all}
+use Rattle.history.proofs.History.{did, all}
 
 module _ {w : World} (g : Between w) (c i : ℕ) (q : c < w.state.columns) where
   -- of the k-th queued batch

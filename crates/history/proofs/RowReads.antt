@@ -29,7 +29,7 @@ use Rattle.invariant.specs.Rests.{reach_other, buffer_number_lem, number-listed}
 use Rattle.invariant.specs.Steps.MoveLaws.{rows_other}
 use Rattle.invariant.specs.Calls.Tested.{between-tested}
 use Rattle.history.specs.Call.{Call}
-use Rattle.history.specs.History.{did, all}
+use Rattle.history.proofs.History.{did, all}
 use Rattle.history.specs.Cells.{slot_cell_at}
 
 module _ {w : World} (g : Between w) (bytes : Bytes w.slots) (c i : ℕ) (h : is_row w c i ≡ true) where
