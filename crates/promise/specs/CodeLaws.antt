@@ -14,9 +14,9 @@ use Rattle.set_up.specs.SetUp.{SetsUp}
 use Rattle.capi.specs.ApiLaws.{drop-same, register_same, let_go_same}
 use Rattle.invariant.specs.Calls.Tested.{between-tested}
 use Rattle.history.specs.Call.{Call, push, finish, drop, register, let_go, limit, read, Did, if_done, front, step, run}
-use Rattle.history.specs.History.{did, all, in_order_lem, below_target}
+use Rattle.history.proofs.History.{did, all, in_order_lem, below_target}
 use Rattle.history.specs.Stray.{refusal}
-use Rattle.history.specs.StrayLaws.{refused-nothing, behind}
+use Rattle.history.proofs.StrayLaws.{refused-nothing, behind}
 use Rattle.promise.specs.Code.{Made, by_push, by_finish, by_drop, by_register, by_let_go, by_limit, by_read, Makes, none, next, astray}
 
 -- ---- one call

@@ -13,7 +13,7 @@ use Rattle.room.specs.Room.{chosen}
 use Rattle.room.specs.RoomLaws.{number_few}
 use Rattle.state.specs.World.{World, world}
 use Rattle.state.specs.Layout.{rows_in}
-use Rattle.state.specs.SlotLaws.{queued_in}
+use Rattle.state.proofs.SlotLaws.{queued_in}
 use Rattle.state.specs.Rows.{Row, null, joined, front_slot, taken_rows, queued_rows, buffered_rows}
 use Rattle.rules.specs.Batch.{Batch, batch_rows}
 use Rattle.rules.specs.Steps.{in_state, with_limit}
@@ -34,9 +34,9 @@ use Rattle.invariant.specs.AloneLaws.{new_sixteen}
 use Rattle.invariant.specs.Calls.Tested.{between-tested}
 use Rattle.invariant.specs.Calls.SetUpAfter.{set_up_begins}
 use Rattle.history.specs.Call.{Call, push, finish, drop, register, let_go, limit, read, Did, if_done, front, step, run}
-use Rattle.history.specs.CallLaws.{call_law}
-use Rattle.history.specs.History.{did, in_order_lem}
-use Rattle.history.specs.Reads.{reads_taken}
+use Rattle.history.proofs.CallLaws.{call_law}
+use Rattle.history.proofs.History.{did, in_order_lem}
+use Rattle.history.proofs.RowReads.{reads_taken}
 use Rattle.promise.specs.OnBytes.{
   HoldsWorld,
   Sent,

@@ -10,7 +10,7 @@ use Rattle.room.specs.RoomLaws.{number_few}
 use Rattle.state.specs.declared.RowAnswer.{RowAnswer}
 use Rattle.state.specs.World.{World, world}
 use Rattle.state.specs.Layout.{rows_in}
-use Rattle.state.specs.SlotLaws.{queued_in}
+use Rattle.state.proofs.SlotLaws.{queued_in}
 use Rattle.state.specs.Rows.{front_slot}
 use Rattle.rules.specs.Ranges.{tested}
 use Rattle.rules.specs.Calls.{RegisterAnswer, Dropped, drop_call, register_call, row_refusal}
@@ -22,7 +22,7 @@ use Rattle.crossing.specs.Cross.{pair, number_in, row_bytes}
 use Rattle.capi.specs.Api.{Memory, memory, Said, said, Told, told, Form, number, both, Given, pushing, finishing, dropping, registering, letting_go, world_in, called, row_in, row_read, limit_set}
 use Rattle.capi.specs.QuietLaws.{number_of, value_of, Quiet, answer-number, answer_both, refused-nothing, pushing_quiet, finishing_quiet, dropping_quiet, registering_quiet, letting_go_quiet}
 use Rattle.history.specs.Call.{Call, push, finish, drop, register, let_go, limit, read}
-use Rattle.history.specs.StrayLaws.{not_accepted, none-taken}
+use Rattle.history.proofs.StrayLaws.{not_accepted, none-taken}
 use Rattle.promise.specs.OnBytes.{Sent, sent_push, sent_finish, sent_drop, sent_register, sent_let_go, sent_limit, sent_read, upper, accepted_by, taken_by, refused_by}
 
 -- ---- the second number of an answer that has two: it fits a word, in every world

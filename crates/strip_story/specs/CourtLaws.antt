@@ -11,7 +11,7 @@ use Rattle.rules.specs.Calls.{Wanted, set_up_call, is_empty}
 use Rattle.invariant.specs.Holding.{Between}
 use Rattle.invariant.specs.Calls.SetUpAfter.{set_up_begins}
 use Rattle.history.specs.Call.{Call, Did}
-use Rattle.history.specs.History as history
+use Rattle.history.proofs.History as history
 use Rattle.outs.specs.Outs.{Strip, empty}
 use Rattle.outs.specs.Coding.{strip_bytes, code_of, strip_of, is_strip, new_fault, new_leaves}
 use Rattle.outs.specs.CodingLaws.{code_is_strip}

@@ -13,7 +13,7 @@ use Rattle.invariant.specs.RowLaws.{upTo-first, length-rows, length-batches}
 use Rattle.invariant.specs.Calls.Tested.{between-tested}
 use Rattle.history.specs.Call.{Call, drop, front, step}
 use Rattle.history.specs.Law.{Law}
-use Rattle.history.specs.CallLaws.{call_law}
+use Rattle.history.proofs.CallLaws.{call_law}
 use Rattle.player_strip.specs.StripCall.{front_batch}
 use Rattle.player_strip.specs.CallerLaws.{batch-some, batch-none}
 

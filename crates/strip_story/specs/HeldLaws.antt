@@ -8,7 +8,7 @@ use Rattle.state.specs.Rows.{Row, joined, queued_rows, buffered_rows}
 use Rattle.rules.specs.Calls.{Wanted, columns_for, new_state, is_empty}
 use Rattle.invariant.specs.Holding.{Between}
 use Rattle.history.specs.Law.{content}
-use Rattle.history.specs.Counts.{empty_counts}
+use Rattle.history.proofs.Counts.{empty_counts}
 use Rattle.outs.specs.Outs.{Strip}
 use Rattle.match_rows.specs.MatchRow.{is_match, row_number, row_took, after_rows}
 use Rattle.match_rows.specs.MatchRowLaws.{after_rows_append, after_rows_one, row-refused}

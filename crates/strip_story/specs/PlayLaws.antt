@@ -11,7 +11,7 @@ use Rattle.state.specs.Rows.{Row, joined}
 use Rattle.invariant.specs.Holding.{Between}
 use Rattle.invariant.specs.RowLaws.{joined-append}
 use Rattle.history.specs.Call.{Call, drop, step, run}
-use Rattle.history.specs.CallLaws.{call_law}
+use Rattle.history.proofs.CallLaws.{call_law}
 use Rattle.outs.specs.Outs.{Strip, empty}
 use Rattle.outs.specs.KeepLaws.{Kept, empty-kept}
 use Rattle.outs.specs.Coding.{code_of, strip_of}

@@ -10,7 +10,7 @@ use Rattle.state.specs.Rows.{up_to, front_slot, slot_cell, slot_row, slot_rows, 
 use Rattle.rules.specs.Calls.{is_row, read_row, read_as}
 use Rattle.invariant.specs.Holding.{Between}
 use Rattle.invariant.specs.RowLaws.{upTo-ext}
-use Rattle.history.specs.Reads.{read_cell}
+use Rattle.history.proofs.RowReads.{read_cell}
 use Rattle.strip_story.specs.StripAfter.{sheet}
 
 map-append {ℓ m} : {A : Type ℓ} {B : Type m} (f : A → B) (l r : List A) → map f (l ++ r) ≡ map f l ++ map f r

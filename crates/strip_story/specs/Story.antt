@@ -8,11 +8,11 @@ use Rattle.state.specs.Rows.{Row, joined, taken_rows, queued_rows, buffered_rows
 use Rattle.rules.specs.Calls.{Wanted, set_up_call, is_empty}
 use Rattle.invariant.specs.Holding.{Between}
 use Rattle.history.specs.Call.{Call, Did}
-use Rattle.history.specs.History.{did, all}
+use Rattle.history.proofs.History.{did, all}
 use Rattle.history.specs.Stray.{Turns}
-use Rattle.history.specs.StrayLaws.{over_turns, turns_in_order}
-use Rattle.history.specs.Columns.{columns_asked, kinds-asked}
-use Rattle.history.specs.Reads.{last-bytes}
+use Rattle.history.proofs.StrayLaws.{over_turns, turns_in_order}
+use Rattle.history.proofs.Columns.{columns_asked, kinds-asked}
+use Rattle.history.proofs.RowReads.{last-bytes}
 use Rattle.outs.specs.Outs.{Side, Strip, empty, out_on, outs, revives}
 use Rattle.outs.specs.KeepLaws.{Distinct, empty-kept}
 use Rattle.outs.specs.TwiceLaws.{Rise, Above, accepted_rise}

@@ -10,7 +10,7 @@ use Rattle.rules.specs.CallLaws.{set_up_zero, set_up_done, push_stays, finish_st
 use Rattle.rules.specs.RegisterLaws.{register_stays, let_go_stays}
 use Rattle.invariant.specs.RowLaws.{length-upTo}
 use Rattle.history.specs.Call.{Call, push, finish, drop, register, let_go, limit, read, step, run}
-use Rattle.history.specs.History.{did}
+use Rattle.history.proofs.History.{did}
 
 -- as many columns, each of the same kind
 record Columns (s t : BatchCoalescer) : Type 0 where

@@ -21,7 +21,7 @@ use Rattle.invariant.specs.Calls.After.{rows_are}
 use Rattle.invariant.specs.Calls.Tested.{between-tested}
 use Rattle.history.specs.Call.{Call, drop, front, step}
 use Rattle.history.specs.Law.{content}
-use Rattle.history.specs.History.{did, in_order_lem}
+use Rattle.history.proofs.History.{did, in_order_lem}
 
 module _ (w : World) where
   -- get_buffered_rows

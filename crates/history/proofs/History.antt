@@ -16,7 +16,7 @@ use Rattle.invariant.specs.Calls.Tested.{between-tested}
 use Rattle.invariant.specs.Calls.SetUpAfter.{Starts, set_up_begins}
 use Rattle.history.specs.Call.{Call, push, finish, drop, register, let_go, limit, read, Did, step, run}
 use Rattle.history.specs.Law.{Law, content, law_rows, run_law}
-use Rattle.history.specs.CallLaws.{call_law}
+use Rattle.history.proofs.CallLaws.{call_law}
 
 -- ---- from any world between two calls
 
