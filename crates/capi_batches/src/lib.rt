@@ -8,8 +8,7 @@ ghost use Rattle.capi.specs.Api.{memory, said, number, both, pushing, finishing,
 use counts::RowCount;
 
 // push_batch: 0, or the number of the refusal and nothing changed.
-#[unsafe(no_mangle)]
-pub extern "C" fn pw_push_batch(
+pub fn pw_push_batch(
     state: &mut [u8],
     slots: &mut [u8],
     pool: &mut [u8],
@@ -33,8 +32,7 @@ pub extern "C" fn pw_push_batch(
 }
 
 // finish_buffered_batch: 0, or the number of the refusal and nothing changed.
-#[unsafe(no_mangle)]
-pub extern "C" fn pw_finish_buffered_batch(
+pub fn pw_finish_buffered_batch(
     state: &mut [u8],
     slots: &mut [u8],
     pool: &[u8],
@@ -55,13 +53,7 @@ pub extern "C" fn pw_finish_buffered_batch(
 }
 
 // next_completed_batch: the refusal, and the rows of the batch that was dropped.
-#[unsafe(no_mangle)]
-pub extern "C" fn pw_next_completed_batch(
-    state: &mut [u8],
-    slots: &[u8],
-    pool: &[u8],
-    books: &mut [u8],
-) -> u64
+pub fn pw_next_completed_batch(state: &mut [u8], slots: &[u8], pool: &[u8], books: &mut [u8]) -> u64
     ensures { said result (memory state.new slots.now pool.now books.new)
         ≡ called both dropping (memory state.old slots.now pool.now books.old) }
 {

@@ -7,8 +7,7 @@ ghost use Rattle.capi.specs.Api.{memory, said, number, both, registering, lettin
 use counts::{BufferNumber, ByteCount};
 
 // Registers bytes with a capacity: the refusal, and the buffer's number.
-#[unsafe(no_mangle)]
-pub extern "C" fn pw_register_buffer(
+pub fn pw_register_buffer(
     state: &[u8],
     slots: &[u8],
     pool: &mut [u8],
@@ -33,14 +32,7 @@ pub extern "C" fn pw_register_buffer(
 }
 
 // Lets a buffer go: 0, or the number of the refusal.
-#[unsafe(no_mangle)]
-pub extern "C" fn pw_let_go(
-    state: &[u8],
-    slots: &[u8],
-    pool: &[u8],
-    books: &mut [u8],
-    buffer: u32,
-) -> u32
+pub fn pw_let_go(state: &[u8], slots: &[u8], pool: &[u8], books: &mut [u8], buffer: u32) -> u32
     ensures { said result (memory state.now slots.now pool.now books.new)
         ≡ called number (letting_go buffer) (memory state.now slots.now pool.now books.old) }
 {

@@ -8,14 +8,7 @@ use counts::BufferNumber;
 use state::RowAnswer;
 
 // The refusal of a read of a buffer, or 0.
-#[unsafe(no_mangle)]
-pub extern "C" fn pw_buffer_refusal(
-    state: &[u8],
-    slots: &[u8],
-    pool: &[u8],
-    books: &[u8],
-    buffer: u32,
-) -> u32
+pub fn pw_buffer_refusal(state: &[u8], slots: &[u8], pool: &[u8], books: &[u8], buffer: u32) -> u32
     ensures { result ≡ buffer_number (memory state.now slots.now pool.now books.now) buffer }
 {
     let coded = decoding::decode(state);
@@ -28,8 +21,7 @@ pub extern "C" fn pw_buffer_refusal(
 }
 
 // A buffer's bytes copied to the front of `out`, as far as both go: how many the buffer has, 0 where the read is refused.
-#[unsafe(no_mangle)]
-pub extern "C" fn pw_read_buffer(
+pub fn pw_read_buffer(
     state: &[u8],
     slots: &[u8],
     pool: &[u8],
@@ -73,8 +65,7 @@ fn row_answer(
 
 // Row `row` of column `column` of the front batch, in the 20 bytes of `out`: five words, the first 0 for null. 0, or the number of the
 // refusal and nothing written; 1 where `out` is not of 20 bytes.
-#[unsafe(no_mangle)]
-pub extern "C" fn pw_read_row(
+pub fn pw_read_row(
     state: &[u8],
     slots: &[u8],
     pool: &[u8],

@@ -16,8 +16,7 @@ fn is_askable(state: usize, kinds: usize, pool: usize) -> bool
 }
 
 // Set-up. `kinds` are words of 4 bytes, one a column. 0, or 1 and nothing changed.
-#[unsafe(no_mangle)]
-pub extern "C" fn pw_new(
+pub fn pw_new(
     state: &mut [u8],
     slots: &[u8],
     pool: &[u8],

@@ -7,8 +7,7 @@ ghost use Rattle.capi.specs.Api.{memory, told};
 ghost use Rattle.capi_strip.specs.StripApi.{strip_said, strip_read, taken_said, strip_taken};
 
 // The empty strip in 972 bytes; 1, and nothing changed, where there are not 972.
-#[unsafe(no_mangle)]
-pub extern "C" fn pw_strip_new(strip: &mut [u8]) -> u32
+pub fn pw_strip_new(strip: &mut [u8]) -> u32
     ensures { told result strip.new ≡ told (new_fault strip.old) (new_leaves strip.old) }
 {
     outs::new_strip(strip)
@@ -16,8 +15,7 @@ pub extern "C" fn pw_strip_new(strip: &mut [u8]) -> u32
 
 // The front batch read into the strip, and left where it is: the refusal in the upper 32 bits, and the rows read in the lower; in `numbers` one
 // byte a row, 0 or 31 to 35.
-#[unsafe(no_mangle)]
-pub extern "C" fn pw_strip_read(
+pub fn pw_strip_read(
     state: &[u8],
     slots: &[u8],
     pool: &[u8],
@@ -40,8 +38,7 @@ pub extern "C" fn pw_strip_read(
 }
 
 // The front batch taken into the strip: read, then dropped, in one call. Answers as a read does; a refusal changes nothing.
-#[unsafe(no_mangle)]
-pub extern "C" fn pw_strip_take(
+pub fn pw_strip_take(
     state: &mut [u8],
     slots: &[u8],
     pool: &[u8],

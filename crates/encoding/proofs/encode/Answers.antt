@@ -1,13 +1,17 @@
 -- `encoding::encode` meets its contract.
 use Prim.Native.Nat.{ℕ, zero, suc, ◌<◌, ◌^◌}
-use mathlib.Core.Path.{◌≡◌, sym, ◌∙◌}
-use mathlib.Core.List.{List, [], ◌∷◌, map}
+use mathlib.Core.Path.{◌≡◌}
+use mathlib.Core.List.{List, [], ◌∷◌}
 use native.Mathlib.Omega.{arith}
-use lib.ListN.{length, get_or, length-map}
+use lib.ListN.{length, get_or}
 use mir.Val.{Val}
 use denote.Shadow.{shadow}
 use denote.Array.{each}
 use borrow.Author.Rules.{rules}
+use Rattle.state.specs.contracts.OpenBlock as block_row
+use Rattle.state.specs.contracts.Limit as limit_row
+use Rattle.state.specs.contracts.Column as column_row
+use Rattle.state.specs.contracts.BatchCoalescer as state_row
 use Rattle.state.specs.declared.BatchCoalescer.{BatchCoalescer}
 use Rattle.state.specs.declared.Column.{Column}
 use Rattle.state.specs.declared.Limit.{Limit}
@@ -23,12 +27,12 @@ unfolding block_number
 block-known (OpenBlock.Number k) us p = p.1.1.1.1.0.1.1.0.1
 block-known OpenBlock.Closed us p = omega arith
 
-limit-known : (l : Limit) (us : List Val) → shadow ((limit-row.the_field).row.own_val ((limit-row.the_field).into l) us) → limit_number l < 2 ^ 32
+limit-known : (l : Limit) (us : List Val) → shadow ((limit_row.the_field).row.own_val ((limit_row.the_field).into l) us) → limit_number l < 2 ^ 32
 unfolding limit_number
 limit-known (Limit.Rows k) us p = p.1.1.1.1.0.1.1.0.1
 limit-known Limit.Unset us p = omega arith
 
-column-known : (d : Column) (us : List Val) → shadow ((column-row.the_field).row.own_val ((column-row.the_field).into d) us) → ColumnFits d
+column-known : (d : Column) (us : List Val) → shadow ((column_row.the_row).own_val d us) → ColumnFits d
 column-known d us p =
     record {
       kind_fits = p.1.1.0.1;
@@ -36,16 +40,16 @@ column-known d us p =
       block_fits = block-known d.block p.0.1.1.0 p.1.1.1.1.0;
     }
 
-columns-known : (ds : List Column) (us : List Val) → shadow (each (column-row.the_field).row.Denot (column-row.the_field).row.own_val (map (column-row.the_field).into ds) us) → (c : ℕ) → c < length ds → ColumnFits (get_or ds c no_column)
+columns-known : (ds : List Column) (us : List Val) → shadow (each (column_row.the_row).Denot (column_row.the_row).own_val ds us) → (c : ℕ) → c < length ds → ColumnFits (get_or ds c no_column)
 columns-known [] us p c h = absurd (omega arith)
 columns-known (d ∷ ds) [] p c h = absurd p
 columns-known (d ∷ ds) (u ∷ us) p zero h = column-known d (u ∷ []) p.0
 columns-known (d ∷ ds) (u ∷ us) p (suc c) h = columns-known ds us p.1 c (omega arith)
 
-state-known : (s : BatchCoalescer) (vs : List Val) → shadow ((state-row.the_row).own_val s vs) → Words s
+state-known : (s : BatchCoalescer) (vs : List Val) → shadow ((state_row.the_row).own_val s vs) → Words s
 unfolding column_of
 state-known s vs p =
-    let n : length s.column ≡ 16 = sym (length-map s.column (column-row.the_field).into) ∙ p.1.1.1.1.1.1.1.1.1.1.1.1.1.0.1.0.1 in
+    let n : length s.column ≡ 16 = p.1.1.1.1.1.1.1.1.1.1.1.1.1.0.1.0.1 in
     record {
       target_fits = p.1.1.0.1.1.0.1;
       rows-fits = p.1.1.1.0.1.1.0.1;
@@ -63,4 +67,4 @@ state-known s vs p =
     }
 
 pub returns : goal.returns
-returns c = (search (state_put, rules), search (state-known, rules))
+returns c = (search (state_put, rules), state-known c.args.s _ c.well_formed.1.0)
