@@ -25,7 +25,7 @@ BY_VALUE = {'new': 'new_coalescer', 'strip_new': 'new_strip', 'strip_read': 'rea
 PLAIN = {('outs', 'new_strip')}
 # what such a call takes
 STATE = {'BatchCoalescer', 'Wanted'}
-ORDER = ('history', 'History', 'in-order')
+ORDER = ('history', 'History', 'in_order_lem')
 WORKED = ('worked', 'Worked', 'worked')
 # premises that every world of a history meets, by a theorem: what they say need not be believed
 MET = {('invariant', 'Holding', 'Between'): 'history/History `histories`'}
@@ -101,7 +101,7 @@ def exported(repository):
         if len(found) != 1:
             raise antt.Unresolved(f'{source.path}: {len(found)} functions {name} by value stand behind {function.name}')
         calls += found
-    marked = sum(source.text.count('#[no_mangle]') for source in repository.sources.values())
+    marked = sum(source.text.count('#[unsafe(no_mangle)]') for source in repository.sources.values())
     if not layer or len(layer) != marked:
         raise antt.Unresolved(f'{marked} functions are exported, {len(layer)} of them can be read')
     return layer, calls
@@ -157,10 +157,14 @@ def one(repository, files, name):
     raise antt.Unresolved(f'docs/THEOREMS.md: {name} is in none of {files}')
 
 
+def ends(name):
+    parts = re.split('[-_]', name)
+    return {parts[0], parts[-1]}
+
+
 def like(repository, files, names):
-    ends = {name.split('-')[0] for name in names} | {name.split('-')[-1] for name in names}
-    return [item for key in files for item in repository.files[key].order
-            if item.kind == 'pub' and item.name not in names and ({item.name.split('-')[0], item.name.split('-')[-1]} & ends)]
+    wanted = set().union(*map(ends, names))
+    return [item for key in files for item in repository.files[key].order if item.kind == 'pub' and item.name not in names and ends(item.name) & wanted]
 
 
 def rows_of(repository):
