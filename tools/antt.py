@@ -1,4 +1,4 @@
-"""Reads definitions: the items of every specs file, the structs and enums of the code, the contracts of its functions. A line that begins no item
+"""Reads definitions: the items of every specs file and of the theorems beside proofs, the structs and enums of the code, the contracts of its functions. A line that begins no item
 is an error."""
 import pathlib
 import re
@@ -177,7 +177,7 @@ class Source:
 
 
 class Repository:
-    """Every specs file and every file of the code."""
+    """Every specs file, the theorems beside proofs (as files `proofs.NAME`), and every file of the code."""
 
     def __init__(self, root):
         self.root = pathlib.Path(root)
@@ -187,6 +187,12 @@ class Repository:
             crate = path.relative_to(self.root).parts[1]
             inner = '.'.join(path.relative_to(self.root / 'crates' / crate / 'specs').with_suffix('').parts)
             self.files[(crate, inner)] = File((crate, inner), path)
+        # what stands in no function's folder: theorems that rest on others
+        for path in sorted(self.root.glob('crates/*/proofs/**/*.antt')):
+            crate = path.relative_to(self.root).parts[1]
+            inner = path.relative_to(self.root / 'crates' / crate).with_suffix('').parts
+            if all(part[0].isupper() for part in inner[1:]):
+                self.files[(crate, '.'.join(inner))] = File((crate, '.'.join(inner)), path)
         for path in sorted(self.root.glob('crates/*/src/*.rt')):
             self.sources[(path.relative_to(self.root).parts[1], path.stem)] = Source(path.relative_to(self.root).parts[1], path)
         self.fields = {m for f in self.files.values() for i in f.order if i.kind.endswith('record') for m in i.members} | BORROW
@@ -203,8 +209,8 @@ class Repository:
 
     def module(self, module):
         """The crate and file that a module's name stands for; None for a library of the kit."""
-        found = re.match(r'Rattle\.([a-z_0-9]+)\.specs\.(.+)$', module)
-        return found and found.group(1) in self.crates and (found.group(1), found.group(2))
+        found = re.match(r'Rattle\.([a-z_0-9]+)\.(?:specs\.(.+)|(proofs\.[A-Z].*))$', module)
+        return found and found.group(1) in self.crates and (found.group(1), found.group(2) or found.group(3))
 
     def imported(self, module, name):
         """The items that an import names: of a specs file, of the code, or none, of the kit."""

@@ -123,7 +123,7 @@ def theorems(repository):
     found = []
     for line in (repository.root / 'docs/THEOREMS.md').read_text().split('\n'):
         cells = [cell.strip() for cell in line.split('|')]
-        if len(cells) < 5 or '`' not in cells[2] or 'specs/' not in cells[3]:
+        if len(cells) < 5 or '`' not in cells[2] or not re.search('specs/|proofs/', cells[3]):
             continue
         files = files_of(cells[3])
         field = re.search(r'the field `([^`]+)` of `([^`]+)`', cells[2])
@@ -140,13 +140,15 @@ def theorems(repository):
 
 
 def files_of(cell):
-    """`history/specs/History, Refusals` as crates and files."""
-    crate, files = None, []
+    """`history/specs/History, Refusals, room/proofs/BackLaws` as crates and files."""
+    crate, before, files = None, '', []
     for part in cell.replace('`', '').split(','):
         part = part.strip().removesuffix('.antt')
-        if '/specs/' in part:
-            crate, part = part.split('/specs/')
-        files.append((crate, part.replace('/', '.')))
+        for folder in ('specs', 'proofs'):
+            if f'/{folder}/' in part:
+                crate, part = part.split(f'/{folder}/')
+                before = 'proofs.' if folder == 'proofs' else ''
+        files.append((crate, before + part.replace('/', '.')))
     return files
 
 

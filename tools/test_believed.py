@@ -194,6 +194,13 @@ class Planted(unittest.TestCase):
     def test_a_theorem_that_is_not_there(self):
         self.refused('lost is in none of', docs_THEOREMS_md=('`told`', '`told`, `lost`'))
 
+    def test_a_theorem_beside_the_proofs(self):
+        repository = self.repository(docs_THEOREMS_md=('| 3 | `told` | history/specs/History | |', '| 3 | `more` | low/proofs/More | |'))
+        path = repository.root / 'crates/low/proofs/More.antt'
+        path.parent.mkdir()
+        path.write_text('-- more\nuse Rattle.std.specs.Prelude.{◌≡◌, refl}\nuse Rattle.low.specs.Low.{unused}\n\npub more : unused ≡ 0\nmore = refl\n')
+        self.assertIn('unused', self.names(antt.Repository(repository.root)))
+
     def test_a_field_of_theorems_that_is_not_there(self):
         self.refused('has no field lost', docs_THEOREMS_md=('`fact`', '`lost`'))
 

@@ -1,0 +1,2 @@
+-- Theorems that rest on other theorems: nothing of specs/ cites them.
+pub mod BackLaws
