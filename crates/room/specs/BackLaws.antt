@@ -33,6 +33,9 @@ pub opened-answer : (s : List ℕ) (n pool c : ℕ) → (opened s n pool c).answ
 unfolding opened opened_as
 opened-answer s n pool c = answer_of s c 0 1 (block_room s n pool c)
 
+pub tried_as_opened : (s : List ℕ) (n pool c : ℕ) → (tried s n pool c).answer ≡ (opened s n pool c).answer
+tried_as_opened s n pool c = tried-answer s n pool c ∙ sym (opened-answer s n pool c)
+
 -- the books of a trial have the room that they had
 pub tried_roomy : {s t : List ℕ} {n : ℕ} → Roomy s n → Tried s t n → Roomy t n
 tried_roomy w h = record { bytes = h.bytes; room = omega (arith, w.room, h.framed.len); few = w.few }
@@ -177,3 +180,29 @@ wiped-back {s} {t} {u} {n} i w h v l = go (h.each i l) (dec_lt i (used_of t))
     go (same e f) (yes d) = v.done i d ∙ ap cleared e ∙ cleared_not (entry_of s i) (w.holds i (f d))
     go (same e f) (no d) = v.left i (omega arith) ∙ e
     go (marked z m b) d = v.done i (omega arith) ∙ cleared-marked (entry_of t i) m ∙ sym z
+
+-- THE THEOREM: the end of a trial puts every byte of the books back, whatever books it began with
+pub tried-back : {s t : List ℕ} {n : ℕ} → Roomy s n → Unmarked s → Tried s t n → untried t (used_of s) ≡ s
+unfolding untried
+tried-back {s} {t} {n} w o h =
+    books_ext n c.bytes w.bytes (c.framed.len ∙ v.framed.len ∙ h.framed.len)
+    (used_with_used u (used_of s) (omega (arith, r.room)) (used_lt w))
+    (λ i l. used_entry u (used_of s) i ∙ wiped-back i o h v l)
+    (λ x l. c.framed.after x l ∙ v.framed.after x l ∙ h.framed.after x l)
+  where
+    u : List ℕ
+    u = wiped t (used_of t)
+
+    v : Wiped t u n (used_of t)
+    v = wiped-first (used_of t) (tried_roomy w h) h.used
+
+    r : Roomy u n
+    r = wiped_roomy (tried_roomy w h) v
+
+    c : Changed u (with_used u (used_of s)) n 0 (entry_of u 0)
+    c = used_changed (changed-none 0 r) (used_of s) (used_lt w)
+
+-- for the code: after end_trial
+pub back_is : {s t t' : List ℕ} {n used : ℕ} → Roomy s n → Unmarked s → Tried s t n → used ≡ word32 s 0 → t' ≡ untried t used → t' ≡ s
+unfolding used_of
+back_is w o h p q = q ∙ rw p (tried-back w o h)

@@ -1,7 +1,6 @@
 -- `trial::room_refusal` meets its contract.
 use native.Mathlib.Omega.{arith}
-use Rattle.room.specs.BackLaws.{tried_end_room}
-use Rattle.room.proofs.BackLaws.{back_is}
+use Rattle.room.specs.BackLaws.{tried_end_room, back_is}
 use Rattle.trial.specs.NumberLaws.{room_answers}
 use Rattle.trial.specs.SourcedLaws.{pushing_trying, pushing_triable, pushing-below}
 use Rattle.trial_column.specs.TryingLaws.{trying_roomy}

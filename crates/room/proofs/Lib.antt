@@ -1,2 +1,0 @@
--- Theorems that rest on other theorems: nothing of specs/ cites them.
-pub mod BackLaws
