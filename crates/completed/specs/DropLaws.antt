@@ -19,7 +19,7 @@ use Rattle.tallies.specs.TallyLaws.{framed_tally}
 use Rattle.state.specs.declared.BatchCoalescer.{BatchCoalescer}
 use Rattle.state.specs.World.{World, world}
 use Rattle.state.specs.Layout.{is_views, tally, list_place, books_length, rows_in, list_length, queued_slot}
-use Rattle.state.specs.LayoutLaws.{column_in_lem, bitmap_follows, list_follows}
+use Rattle.state.proofs.LayoutLaws.{column_in_lem, bitmap_follows, list_follows}
 use Rattle.layout.specs.PlaceLaws.{list-below}
 use Rattle.ranges.specs.RangeLaws.{entries_room}
 use Rattle.ranges.specs.SaysLaws.{says_used, says_no_list, says_few_listed, says-number}

@@ -4,7 +4,7 @@ use Rattle.std.proofs.Common.{sym}
 use Rattle.bits.specs.Bits.{bits_from}
 use Rattle.state.specs.World.{World}
 use Rattle.state.specs.Layout.{bitmap_place, rows_in, queued_slot}
-use Rattle.state.specs.SlotLaws.{queued_in, queued_place}
+use Rattle.state.proofs.SlotLaws.{queued_in, queued_place}
 use Rattle.rules.specs.Calls.{Wanted, set_up_call}
 use Rattle.invariant.specs.Holding.{IsSpare, Between}
 use Rattle.invariant.specs.Steps.MoveLaws.{rows-filling, rows_other}

@@ -19,7 +19,7 @@ use Rattle.rules.specs.Views.{span, closed, views_from, list_attached, views_rai
 use Rattle.state.specs.declared.BatchCoalescer.{BatchCoalescer}
 use Rattle.state.specs.World.{World, world}
 use Rattle.state.specs.Layout.{width_of, cell_place, books_length, list_length}
-use Rattle.state.specs.LayoutLaws.{views_width}
+use Rattle.state.proofs.LayoutLaws.{views_width}
 use Rattle.layout.specs.Few.{Few}
 use Rattle.rules.specs.Leaves.{steps-done, steps-refused}
 use Rattle.columns.specs.Column.{closed_length}

@@ -18,7 +18,7 @@ use Rattle.state.specs.declared.BatchCoalescer.{BatchCoalescer}
 use Rattle.state.specs.declared.Column.{Column}
 use Rattle.state.specs.declared.OpenBlock.{OpenBlock}
 use Rattle.state.specs.World.{World, world, column_of}
-use Rattle.state.specs.LayoutLaws.{views_width}
+use Rattle.state.proofs.LayoutLaws.{views_width}
 use Rattle.rules.specs.declared.Step.{Step}
 use Rattle.rules.specs.Leaves.{Steps, steps-done, steps_next, steps_stop}
 use Rattle.columns.specs.SourceLaws.{rest-answer}

@@ -27,7 +27,7 @@ use Rattle.state.specs.declared.Column.{Column}
 use Rattle.state.specs.declared.OpenBlock.{OpenBlock}
 use Rattle.state.specs.World.{World, world, column_of}
 use Rattle.state.specs.Layout.{width_of, cell_place, list_length}
-use Rattle.state.specs.LayoutLaws.{views_width}
+use Rattle.state.proofs.LayoutLaws.{views_width}
 use Rattle.push_safety.specs.CallerLaws.{run_bounds, pool_small, cells_room, values_room, long-index, long-source}
 use Rattle.push_safety.specs.BlockGoes.{open_entry, open_inside}
 use Rattle.columns.specs.SourceLaws.{list_same, sourceable}

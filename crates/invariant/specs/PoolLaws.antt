@@ -7,8 +7,8 @@ use Rattle.books.specs.Entry.{entry_of, is_free}
 use Rattle.words.specs.Frame.{Framed}
 use Rattle.sound.specs.Change.{Changed, length_as}
 use Rattle.sound.specs.Live.{length-free}
-use Rattle.sound.specs.Filled.{occupied_once}
-use Rattle.sound.specs.ListKept.{Relisted}
+use Rattle.sound.proofs.Filled.{occupied_once}
+use Rattle.sound.proofs.ListKept.{Relisted}
 use Rattle.state.specs.declared.BatchCoalescer.{BatchCoalescer}
 use Rattle.state.specs.World.{World}
 use Rattle.invariant.specs.Holding.{HasOpen, Unheld, Holding, Owns, Lies, Unfilled, PoolStays}

@@ -19,7 +19,7 @@ use Rattle.views.specs.ShowLaws.{Keeps}
 use Rattle.state.specs.declared.OpenBlock.{OpenBlock}
 use Rattle.state.specs.World.{World, column_of}
 use Rattle.state.specs.Layout.{width_of, is_views, bitmap_place, cell_place, slots_length, list_length}
-use Rattle.state.specs.LayoutLaws.{views_width, cell_in}
+use Rattle.state.proofs.LayoutLaws.{views_width, cell_in}
 use Rattle.state.specs.Rows.{listed_at, open_bytes, buffer_at, cell_of, slot_cell}
 use Rattle.rules.specs.Views.{has_block, block_number, is_open, open_number}
 use Rattle.rules.specs.Stays.{SameSetUp}

@@ -18,7 +18,7 @@ use Rattle.state.specs.declared.BatchCoalescer.{BatchCoalescer}
 use Rattle.state.specs.World.{World}
 use Rattle.state.specs.Layout.{width_of, is_views, bitmap_bytes, bitmap_place, list_place, cell_place, rows_in, list_length}
 use Rattle.state.specs.Where.{Where, cells, bitmap, listed, start_of, size_of, Inside, cells_inside, bitmap_inside, listed_inside, Other}
-use Rattle.state.specs.WhereLaws.{other_apart}
+use Rattle.state.proofs.WhereLaws.{other_apart}
 use Rattle.state.specs.Rows.{listed_at}
 use Rattle.rules.specs.Steps.{in_slots}
 use Rattle.rules.specs.Views.{open_number}

@@ -27,7 +27,7 @@ use Rattle.state.specs.Layout.{
   slot_before,
   queued_slot,
 }
-use Rattle.state.specs.LayoutLaws.{columns_next}
+use Rattle.state.proofs.LayoutLaws.{columns_next}
 use Rattle.layout.specs.Few.{size_of_kind}
 use Rattle.layout.specs.WidthLaws.{kind_bound}
 

@@ -3,7 +3,7 @@ use Rattle.std.specs.Prelude.{ℕ, suc, ◌+◌, ◌*◌, ◌≤◌, ◌<◌, �
 use Rattle.std.proofs.Common.{sym, ◌∙◌, arith}
 use Rattle.state.specs.declared.BatchCoalescer.{BatchCoalescer}
 use Rattle.state.specs.Layout.{width_of, is_views, bitmap_bytes, bitmap_place, list_place, cell_place, slots_length}
-use Rattle.state.specs.LayoutLaws.{cell_in, bitmap_in, column_in_lem, entries_fit, bitmap_follows, list_follows}
+use Rattle.state.proofs.LayoutLaws.{cell_in, bitmap_in, column_in_lem, entries_fit, bitmap_follows, list_follows}
 
 module _ (s : BatchCoalescer) {slot c L : ℕ} (in_slots_lem : slot ≤ s.queue) (in_columns : c < s.columns) (long : L ≡ slots_length s) where
   -- n cells from row i on, and one

@@ -9,7 +9,7 @@ use Rattle.listings.specs.Listing.{listed_one, over_list, Listed}
 use Rattle.state.specs.declared.BatchCoalescer.{BatchCoalescer}
 use Rattle.state.specs.World.{world}
 use Rattle.state.specs.Layout.{is_views, list_place, list_length, tally}
-use Rattle.state.specs.LayoutLaws.{bitmap_in, list_follows}
+use Rattle.state.proofs.LayoutLaws.{bitmap_in, list_follows}
 use Rattle.layout.specs.PlaceLaws.{list-below}
 use Rattle.rules.specs.declared.ColumnRecord.{ColumnRecord}
 use Rattle.rules.specs.Batch.{Batch, batch, record_of, list_of}

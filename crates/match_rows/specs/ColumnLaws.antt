@@ -7,7 +7,7 @@ use Rattle.kinds.specs.Kind.{width_at, kind_of, is_view}
 use Rattle.state.specs.declared.BatchCoalescer.{BatchCoalescer}
 use Rattle.state.specs.World.{column_of}
 use Rattle.state.specs.Layout.{bytes_in, width_of, is_views, values_bytes, bitmap_bytes, list_bytes, columns_bytes, slot_bytes, values_place, bitmap_place, list_place, cell_place}
-use Rattle.state.specs.LayoutLaws.{columns_next}
+use Rattle.state.proofs.LayoutLaws.{columns_next}
 use Rattle.match_rows.specs.declared.Places.{Places}
 use Rattle.match_rows.specs.MatchRow.{is_match}
 use Rattle.match_rows.specs.Placed.{places_in}

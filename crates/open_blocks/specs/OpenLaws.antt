@@ -13,7 +13,7 @@ use Rattle.sound.specs.Change.{with_length}
 use Rattle.room.specs.declared.Room.{Room}
 use Rattle.room.specs.declared.Chosen.{Chosen}
 use Rattle.room.specs.Room.{opened}
-use Rattle.room.specs.BackLaws.{opened-answer}
+use Rattle.room.proofs.BackLaws.{opened-answer}
 use Rattle.state.specs.declared.BatchCoalescer.{BatchCoalescer}
 use Rattle.state.specs.declared.Column.{Column}
 use Rattle.state.specs.declared.OpenBlock.{OpenBlock}

@@ -11,7 +11,7 @@ use Rattle.words.specs.Run.{put}
 use Rattle.state.specs.declared.BatchCoalescer.{BatchCoalescer}
 use Rattle.state.specs.World.{World, world}
 use Rattle.state.specs.Layout.{bitmap_bytes, bitmap_place, rows_in, list_length, queued_slot}
-use Rattle.state.specs.SlotLaws.{queued_in, queued_place}
+use Rattle.state.proofs.SlotLaws.{queued_in, queued_place}
 use Rattle.state.specs.Rows.{up_to, slot_rows, taken_rows}
 use Rattle.layout.specs.PlaceLaws.{bitmap_below, list-below}
 use Rattle.ranges.specs.SaysLaws.{says_entries, says-list, says-number}

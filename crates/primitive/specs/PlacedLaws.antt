@@ -8,7 +8,7 @@ use Rattle.search.specs.Cases.{by_cond}
 use Rattle.state.specs.declared.BatchCoalescer.{BatchCoalescer}
 use Rattle.state.specs.World.{World, world}
 use Rattle.state.specs.Layout.{width_of, is_views, values_bytes, bitmap_bytes, list_bytes, columns_bytes, slot_bytes, values_place, bitmap_place, cell_place}
-use Rattle.state.specs.LayoutLaws.{bits_fit}
+use Rattle.state.proofs.LayoutLaws.{bits_fit}
 use Rattle.layout.specs.Few.{Few}
 use Rattle.layout.specs.WidthLaws.{width_bound}
 use Rattle.layout.specs.ExitLaws.{values_small}

@@ -13,7 +13,7 @@ use Rattle.room.specs.Room.{chosen}
 use Rattle.room.specs.RoomLaws.{number_few}
 use Rattle.state.specs.World.{World, world}
 use Rattle.state.specs.Layout.{rows_in}
-use Rattle.state.specs.SlotLaws.{queued_in}
+use Rattle.state.proofs.SlotLaws.{queued_in}
 use Rattle.state.specs.Rows.{Row, null, joined, front_slot, taken_rows, queued_rows, buffered_rows}
 use Rattle.rules.specs.Batch.{Batch, batch_rows}
 use Rattle.rules.specs.Steps.{in_state, with_limit}

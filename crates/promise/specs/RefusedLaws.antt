@@ -10,7 +10,7 @@ use Rattle.room.specs.RoomLaws.{number_few}
 use Rattle.state.specs.declared.RowAnswer.{RowAnswer}
 use Rattle.state.specs.World.{World, world}
 use Rattle.state.specs.Layout.{rows_in}
-use Rattle.state.specs.SlotLaws.{queued_in}
+use Rattle.state.proofs.SlotLaws.{queued_in}
 use Rattle.state.specs.Rows.{front_slot}
 use Rattle.rules.specs.Ranges.{tested}
 use Rattle.rules.specs.Calls.{RegisterAnswer, Dropped, drop_call, register_call, row_refusal}

@@ -7,7 +7,7 @@ use Rattle.books.specs.Entry.{used_of, entry_of}
 use Rattle.listings.specs.Listing.{Listed}
 use Rattle.state.specs.World.{World}
 use Rattle.state.specs.Layout.{width_of, is_views, bitmap_bytes, bitmap_place, list_place, cell_place, tally}
-use Rattle.state.specs.LayoutLaws.{cell_in, bitmap_in, list_in}
+use Rattle.state.proofs.LayoutLaws.{cell_in, bitmap_in, list_in}
 use Rattle.rules.specs.Batch.{Batch, record_of, listed_number, list_of, value_place, row_view}
 use Rattle.rules.specs.Views.{filling, source_place}
 use Rattle.push_safety.specs.Run.{Run, Readable}

@@ -5,4 +5,3 @@ pub mod Trial
 pub mod TrialLaws
 pub mod Back
 pub mod SameBooks
-pub mod BackLaws

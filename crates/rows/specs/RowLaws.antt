@@ -11,7 +11,7 @@ use Rattle.state.specs.declared.Place.{Place}
 use Rattle.state.specs.declared.RowAnswer.{RowAnswer}
 use Rattle.state.specs.World.{world}
 use Rattle.state.specs.Layout.{width_of, is_views, bitmap_place, list_place, cell_place, rows_in, list_length, queued_slot}
-use Rattle.state.specs.LayoutLaws.{bits_fit, views_width}
+use Rattle.state.proofs.LayoutLaws.{bits_fit, views_width}
 use Rattle.layout.specs.PlaceLaws.{bitmap_below, cell_below}
 use Rattle.state.specs.Rows.{listed_at}
 use Rattle.rules.specs.Ranges.{tested}

@@ -14,7 +14,7 @@ use Rattle.words.specs.WordLaws.{length-with_word32}
 use Rattle.words.specs.RunLaws.{length-lay}
 use Rattle.views.specs.StoreLaws.{length-with_view}
 use Rattle.pool.specs.CarryLaws.{length-carried}
-use Rattle.room.specs.BackLaws.{opened-answer}
+use Rattle.room.proofs.BackLaws.{opened-answer}
 use Rattle.tallies.specs.TallyLaws.{length-with_tally}
 use Rattle.views.specs.View.{is_inline}
 use Rattle.state.specs.declared.OpenBlock.{OpenBlock}

@@ -5,9 +5,4 @@ pub mod OpLaws
 pub mod Live
 pub mod Top
 pub mod SoundLaws
-pub mod Kept
-pub mod Lists
-pub mod Filled
 pub mod Freed
-pub mod Others
-pub mod ListKept

@@ -1,9 +1,6 @@
 -- The state, the memories beside it, where things lie in them, and what a row is.
 pub mod World
 pub mod Layout
-pub mod LayoutLaws
 pub mod Where
-pub mod WhereLaws
-pub mod SlotLaws
 pub mod Rows
 pub mod RowLaws

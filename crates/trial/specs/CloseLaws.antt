@@ -13,7 +13,7 @@ use Rattle.state.specs.World.{World, world, column_of, no_column}
 use Rattle.state.specs.Layout.{is_views, next_slot, list_length}
 use Rattle.rules.specs.Stays.{SameSetUp, same_refl, same_trans, same_counts, same-column, Kept}
 use Rattle.rules.specs.SameLaws.{same_views}
-use Rattle.state.specs.SlotLaws.{next_in}
+use Rattle.state.proofs.SlotLaws.{next_in}
 use Rattle.layout.specs.Few.{Few}
 use Rattle.rules.specs.Steps.{with_counts, with_column}
 use Rattle.push_safety.specs.BooksGo.{go_refl}
@@ -21,7 +21,7 @@ use Rattle.push_safety.specs.Firm.{FirmGoes, run_firm, firm_run, firm_goes, same
 use Rattle.push_safety.specs.StepGoes.{column_cases, column-new}
 use Rattle.push_safety.specs.FinishGoes.{Shut, shut_spare}
 use Rattle.trial_truth.specs.Tells.{closed_at}
-use Rattle.room.specs.BackLaws.{tried-none}
+use Rattle.room.proofs.BackLaws.{tried-none}
 use Rattle.trial_column.specs.ShutLaws.{not_number}
 use Rattle.trial_column.specs.Trying.{Trying, Tries}
 use Rattle.trial.specs.Tried.{TriesFinish, ClosesFirst}

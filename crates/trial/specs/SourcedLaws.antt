@@ -4,7 +4,7 @@ use Rattle.std.proofs.Common.{sym, ◌∙◌, ap, arith}
 use Rattle.state.specs.declared.BatchCoalescer.{BatchCoalescer}
 use Rattle.state.specs.World.{world}
 use Rattle.state.specs.Layout.{is_views}
-use Rattle.state.specs.LayoutLaws.{views_width}
+use Rattle.state.proofs.LayoutLaws.{views_width}
 use Rattle.rules.specs.declared.Way.{Way}
 use Rattle.rules.specs.Batch.{Batch, batch, way}
 use Rattle.rules.specs.Stays.{same_refl}

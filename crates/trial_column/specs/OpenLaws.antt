@@ -18,7 +18,7 @@ use Rattle.room.specs.declared.Chosen.{Chosen}
 use Rattle.room.specs.Room.{block_room, entry_at, taken_for, opened_as, tried, Opens}
 use Rattle.room.specs.RoomLaws.{Found-room, ZeroRoom, room_says, block_says}
 use Rattle.room.specs.Back.{Tried}
-use Rattle.room.specs.BackLaws.{tried-answer, taken-tried}
+use Rattle.room.proofs.BackLaws.{tried-answer, taken-tried}
 use Rattle.state.specs.declared.BatchCoalescer.{BatchCoalescer}
 use Rattle.state.specs.declared.Column.{Column}
 use Rattle.state.specs.declared.OpenBlock.{OpenBlock}

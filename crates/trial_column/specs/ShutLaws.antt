@@ -5,7 +5,7 @@ use Rattle.counts.specs.declared.BufferNumber.{BufferNumber}
 use Rattle.state.specs.declared.BatchCoalescer.{BatchCoalescer}
 use Rattle.state.specs.declared.Column.{Column}
 use Rattle.state.specs.declared.OpenBlock.{OpenBlock}
-use Rattle.room.specs.BackLaws.{tried-none}
+use Rattle.room.proofs.BackLaws.{tried-none}
 use Rattle.state.specs.World.{column_of}
 use Rattle.rules.specs.Stays.{same-column}
 use Rattle.rules.specs.Steps.{with_column}

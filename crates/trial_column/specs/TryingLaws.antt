@@ -5,7 +5,7 @@ use Rattle.std.proofs.lemmas.List.{length-replicate}
 use Rattle.counts.specs.declared.BufferNumber.{BufferNumber}
 use Rattle.books.specs.Entry.{used_of}
 use Rattle.sound.specs.Change.{Roomy}
-use Rattle.room.specs.BackLaws.{tried-none, tried_trans}
+use Rattle.room.proofs.BackLaws.{tried-none, tried_trans}
 use Rattle.state.specs.declared.BatchCoalescer.{BatchCoalescer}
 use Rattle.state.specs.declared.Column.{Column}
 use Rattle.state.specs.declared.OpenBlock.{OpenBlock}

@@ -8,7 +8,7 @@ pub buffer_part-requires : goal.buffer_part-requires
 buffer_part-requires c = search (says_in_use, rules)
 
 pub returns-then-tested-eq0 : goal.returns-then-tested-eq0
-returns-then-tested-eq0 c = (search (part_read, rules), search (place_read, rules))
+returns-then-tested-eq0 c = record { result_value = search (part_read, rules); part_at = search (place_read, rules) }
 
 pub returns-else-tested-eq0 : goal.returns-else-tested-eq0
-returns-else-tested-eq0 c = (search (part_refused, rules), search (place-refused, rules))
+returns-else-tested-eq0 c = record { result_value = search (part_refused, rules); part_at = search (place-refused, rules) }

@@ -1,6 +1,6 @@
 -- `checks::column_fault` meets its contract.
 use borrow.Author.Rules.{rules}
-use Rattle.checks.specs.ColumnLaws.{at-four, at_five, at_six, no_views, views_rows, rows_in}
+use Rattle.checks.specs.ColumnLaws.{at-four, at_five, at_six, no_views, views_rows, rows_in_lem}
 use Rattle.column_checks.specs.RuleLaws.{list_room, record_heeded}
 use Rattle.checks.proofs.column_fault.Goals as goal
 
@@ -9,7 +9,7 @@ all_held-requires c = (search rules, search (list_room, rules))
 
 pub row_fault-requires : goal.row_fault-requires
 row_fault-requires c =
-    (record_heeded _ _ _ _ _ _ _ c.requires.0 c.keeps_rules.ensures c.if-keeps_rules.true c.lies_in_body.ensures c.if-lies_in_body.true c.all_held.ensures c.if-all_held.true, c.requires.3, rows_in _ _ _ _ _ c.requires.5 c.width_in-width.ensures.0 c.lies_in_body.ensures c.if-lies_in_body.true c.is_view.ensures c.if-is_view.true)
+    (record_heeded _ _ _ _ _ _ _ c.requires.0 c.keeps_rules.ensures c.if-keeps_rules.true c.lies_in_body.ensures c.if-lies_in_body.true c.all_held.ensures c.if-all_held.true, c.requires.3, rows_in_lem _ _ _ _ _ c.requires.5 c.width_in-width.ensures.0 c.lies_in_body.ensures c.if-lies_in_body.true c.is_view.ensures c.if-is_view.true)
 
 pub returns-then-is_view : goal.returns-then-is_view
 returns-then-is_view c = search (views_rows, rules)

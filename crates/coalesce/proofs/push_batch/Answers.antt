@@ -8,10 +8,10 @@ pub push_judged-requires : goal.push_judged-requires
 push_judged-requires c = ready c.judge-verdict.ensures (search rules)
 
 pub returns-in-Go : goal.returns-in-Go
-returns-in-Go c = push_goes c.judge-verdict.ensures c.enum_told-1.given.1 c.push_judged.ensures
+returns-in-Go c = push_goes c.judge-verdict.ensures c.in-Go.is c.push_judged.ensures
 
 pub returns-in-Nothing : goal.returns-in-Nothing
-returns-in-Nothing c = push_nothing c.judge-verdict.ensures c.enum_told-in-Nothing-1.given.1
+returns-in-Nothing c = push_nothing c.judge-verdict.ensures c.in-Nothing.is
 
 pub returns-in-Refused : goal.returns-in-Refused
-returns-in-Refused c = push_refused c.judge-verdict.ensures (search (c.verdict-1.given, rules))
+returns-in-Refused c = push_refused c.judge-verdict.ensures c.in-Refused.is

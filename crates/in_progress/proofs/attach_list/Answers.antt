@@ -3,9 +3,8 @@ use native.Mathlib.Omega.{arith}
 use Rattle.in_progress.specs.AttachLaws.{any_place, any_at, any_record, raise_listable, raise_spanned, raise_raisable, raise_done}
 use Rattle.in_progress.proofs.attach_list.Goals as goal
 
-append-views-and-update-buffer-index-requires :
-    tie.Need-append-views-and-update-buffer-index-requires
-append-views-and-update-buffer-index-requires c κs = (raise_spanned c.requires.0 c.append_list.new.1.0 c.append_list.auto.1.0, raise_raisable c.requires.0 c.requires.1)
+pub append_views_and_update_buffer_index-requires : goal.append_views_and_update_buffer_index-requires
+append_views_and_update_buffer_index-requires c = (raise_spanned c.requires.0 c.append_list.new.slots c.append_list.auto.slots, raise_raisable c.requires.0 c.requires.1)
 
 pub append_list-requires : goal.append_list-requires
 append_list-requires c = (raise_listable c.requires.0 c.requires.1 c.requires.2, any_record c.requires.0)

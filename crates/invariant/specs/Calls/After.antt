@@ -6,7 +6,7 @@ use native.Mathlib.Omega.{arith}
 use Rattle.words.specs.Word.{word32}
 use Rattle.state.specs.World.{World, column_of}
 use Rattle.state.specs.Layout.{is_views, rows_in, list_length, queued_slot}
-use Rattle.state.specs.SlotLaws.{queued_in, queued_place}
+use Rattle.state.proofs.SlotLaws.{queued_in, queued_place}
 use Rattle.state.specs.Rows.{Row, joined, listed_at, slot_rows, slot_cell, queued_batches, buffered_rows}
 use Rattle.rules.specs.Steps.{buffering}
 use Rattle.rules.specs.Views.{open_number}

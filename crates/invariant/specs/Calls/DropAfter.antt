@@ -14,8 +14,8 @@ use Rattle.books.specs.Entry.{used_of, entry_of, is_free}
 use Rattle.sound.specs.Sound.{Sound}
 use Rattle.sound.specs.SoundLaws.{sound_top, sound_recount}
 use Rattle.sound.specs.Top.{live_used}
-use Rattle.sound.specs.Others.{filled-same}
-use Rattle.sound.specs.ListKept.{Relisted}
+use Rattle.sound.proofs.Others.{filled-same}
+use Rattle.sound.proofs.ListKept.{Relisted}
 use Rattle.tallies.specs.Tally.{tally_place, tally_of}
 use Rattle.tallies.specs.TallyLaws.{framed_tally}
 use Rattle.views.specs.View.{view_of, is_valid}
@@ -25,7 +25,7 @@ use Rattle.state.specs.declared.Column.{Column}
 use Rattle.state.specs.declared.OpenBlock.{OpenBlock}
 use Rattle.state.specs.World.{World, column_of}
 use Rattle.state.specs.Layout.{is_views, tally, cell_place, list_length, rows_in, queued_slot}
-use Rattle.state.specs.SlotLaws.{queued_in, queued_one, queued_place, queued_less}
+use Rattle.state.proofs.SlotLaws.{queued_in, queued_one, queued_place, queued_less}
 use Rattle.state.specs.Rows.{Row, up_to, listed_at, buffer_at, front_slot, slot_rows, taken_rows, queued_batches, buffered_rows}
 use Rattle.rules.specs.Batch.{sum_to}
 use Rattle.rules.specs.Steps.{with_counts, in_state, in_books}

@@ -17,8 +17,8 @@ use Rattle.sound.specs.Change.{Roomy, listings_as}
 use Rattle.sound.specs.Live.{live_is, live_says}
 use Rattle.sound.specs.OpLaws.{changed_roomy, unlisted_changed}
 use Rattle.sound.specs.SoundLaws.{sound_roomy, sound_recount}
-use Rattle.sound.specs.Lists.{occurrences, unlisted_all_sound}
-use Rattle.sound.specs.ListKept.{Relisted, unlisted_all_filled, unlisted_all_stays, unlisted_all_live}
+use Rattle.sound.proofs.Lists.{occurrences, unlisted_all_sound}
+use Rattle.sound.proofs.ListKept.{Relisted, unlisted_all_filled, unlisted_all_stays, unlisted_all_live}
 use Rattle.state.specs.World.{World}
 use Rattle.state.specs.Layout.{is_views, list_place, list_length}
 use Rattle.state.specs.Rows.{listed_at}

@@ -20,10 +20,10 @@ use Rattle.sound.specs.Live.{live_is}
 use Rattle.sound.specs.OpLaws.{taken-changed, released-changed}
 use Rattle.sound.specs.SoundLaws.{sound_roomy, sound_top, sound_recount, count_same, count_other}
 use Rattle.sound.specs.Top.{live_used, no_free}
-use Rattle.sound.specs.Kept.{released_sound, gap_sound}
+use Rattle.sound.proofs.Kept.{released_sound, gap_sound}
 use Rattle.sound.specs.Freed.{free-entry, free-uncounted, released_live}
-use Rattle.sound.specs.Filled.{gap_filled}
-use Rattle.sound.specs.Others.{taken_filled_live, released-filled, released_filled_same}
+use Rattle.sound.proofs.GapFilled.{gap_filled}
+use Rattle.sound.proofs.Others.{taken_filled_live, released-filled, released_filled_same}
 use Rattle.room.specs.declared.Room.{Room}
 use Rattle.room.specs.declared.Chosen.{Chosen}
 use Rattle.room.specs.Room.{chosen, entry_at}

@@ -13,8 +13,8 @@ use Rattle.sound.specs.Sound.{filled_bytes}
 use Rattle.sound.specs.Live.{live_is}
 use Rattle.sound.specs.SoundLaws.{sound_top}
 use Rattle.sound.specs.Top.{live_used}
-use Rattle.sound.specs.Others.{filled-same}
-use Rattle.sound.specs.ListKept.{Relisted}
+use Rattle.sound.proofs.Others.{filled-same}
+use Rattle.sound.proofs.ListKept.{Relisted}
 use Rattle.pool.specs.Register.{is_held}
 use Rattle.pool.specs.Read.{is_there}
 use Rattle.state.specs.World.{World}

@@ -12,11 +12,11 @@ use Rattle.bits.specs.Bits.{bits_from}
 use Rattle.books.specs.Entry.{entry_of, is_free}
 use Rattle.sound.specs.Sound.{Sound}
 use Rattle.sound.specs.SoundLaws.{sound_recount}
-use Rattle.sound.specs.ListKept.{Relisted}
+use Rattle.sound.proofs.ListKept.{Relisted}
 use Rattle.tallies.specs.TallyLaws.{entry-with_tally}
 use Rattle.state.specs.World.{World, column_of}
 use Rattle.state.specs.Layout.{bitmap_place, is_views, cell_place, tally, list_length, rows_in, next_slot, queued_slot}
-use Rattle.state.specs.SlotLaws.{queued_in, queued_place, queued_more, queued_last}
+use Rattle.state.proofs.SlotLaws.{queued_in, queued_place, queued_more, queued_last}
 use Rattle.state.specs.Rows.{Row, up_to, listed_at, buffer_at, slot_rows, queued_batches, buffered_rows}
 use Rattle.rules.specs.Steps.{counting, queueing}
 use Rattle.rules.specs.Views.{has_block, is_open}

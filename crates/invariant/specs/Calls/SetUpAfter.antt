@@ -12,7 +12,7 @@ use Rattle.blocks.specs.Block.{fresh}
 use Rattle.blocks.specs.BlockLaws.{Power, fresh_power, power_range}
 use Rattle.sound.specs.Sound.{Sound}
 use Rattle.sound.specs.SoundLaws.{sound_recount}
-use Rattle.sound.specs.Kept.{empty_sound}
+use Rattle.sound.proofs.Kept.{empty_sound}
 use Rattle.tallies.specs.declared.Tally.{Tally}
 use Rattle.tallies.specs.Tally.{tally_of}
 use Rattle.state.specs.declared.OpenBlock.{OpenBlock}

@@ -15,17 +15,17 @@ use Rattle.listings.specs.Listing.{listed_one, over_list}
 use Rattle.sound.specs.Sound.{Sound}
 use Rattle.sound.specs.Live.{live_is}
 use Rattle.sound.specs.SoundLaws.{sound_recount}
-use Rattle.sound.specs.Lists.{occurrences, listed_all_sound, listed_all_keeps}
-use Rattle.sound.specs.ListKept.{Relisted, listed_all_filled, listed_all_entry}
+use Rattle.sound.proofs.Lists.{occurrences, listed_all_sound, listed_all_keeps}
+use Rattle.sound.proofs.ListKept.{Relisted, listed_all_filled, listed_all_entry}
 use Rattle.tallies.specs.Tally.{tally_of, with_tally}
 use Rattle.tallies.specs.TallyLaws.{tally-same, entry-with_tally, framed_tally}
 use Rattle.state.specs.declared.BatchCoalescer.{BatchCoalescer}
 use Rattle.state.specs.declared.OpenBlock.{OpenBlock}
 use Rattle.state.specs.World.{World, column_of}
 use Rattle.state.specs.Layout.{width_of, is_views, bitmap_bytes, bitmap_place, tally, list_place, cell_place, list_length, rows_in}
-use Rattle.state.specs.LayoutLaws.{bits_fit, entries_fit, bitmap_follows, list_follows, column_in_lem}
+use Rattle.state.proofs.LayoutLaws.{bits_fit, entries_fit, bitmap_follows, list_follows, column_in_lem}
 use Rattle.state.specs.Where.{Where, cells, bitmap, listed, start_of, size_of, Inside, cells_inside, bitmap_inside, listed_inside, Other, other_slot, other_column, other_part, behind}
-use Rattle.state.specs.WhereLaws.{other_apart}
+use Rattle.state.proofs.WhereLaws.{other_apart}
 use Rattle.state.specs.Rows.{listed_at}
 use Rattle.rules.specs.Batch.{Batch, record_of, listed_number, list_of, sum_to}
 use Rattle.rules.specs.Steps.{counting}

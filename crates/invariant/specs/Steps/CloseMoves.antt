@@ -14,7 +14,7 @@ use Rattle.state.specs.declared.Column.{Column}
 use Rattle.state.specs.declared.OpenBlock.{OpenBlock}
 use Rattle.state.specs.World.{World, column_of}
 use Rattle.state.specs.Layout.{tally, width_of, is_views, list_place, cell_place, list_length, rows_in}
-use Rattle.state.specs.LayoutLaws.{bits_fit, list_in}
+use Rattle.state.proofs.LayoutLaws.{bits_fit, list_in}
 use Rattle.state.specs.Where.{Where, listed, Inside, listed_inside, Other, other_slot, other_column, other_part, behind}
 use Rattle.state.specs.Rows.{listed_at}
 use Rattle.rules.specs.Steps.{with_column, in_state, in_slots, counting, listing}
@@ -26,7 +26,7 @@ use Rattle.push_safety.specs.TestedLaws.{bounds_say}
 use Rattle.push_safety.specs.StepGoes.{column_cases, column-new}
 use Rattle.push_safety.specs.BlockGoes.{open_room, open_number_lem, closed_goes}
 use Rattle.tallies.specs.TallyLaws.{entry-with_tally}
-use Rattle.sound.specs.ListKept.{Relisted}
+use Rattle.sound.proofs.ListKept.{Relisted}
 use Rattle.invariant.specs.Holding.{reach, number_at, listings, HasOpen, Holding, Stands, PoolStays}
 use Rattle.invariant.specs.BeginLaws.{begins_is}
 use Rattle.invariant.specs.Rests.{reach_open, reach-shut, number-listed, number_open}

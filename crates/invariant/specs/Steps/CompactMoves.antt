@@ -16,9 +16,9 @@ use Rattle.books.specs.Entry.{used_of, entry_of, is_free}
 use Rattle.sound.specs.Sound.{filled_bytes}
 use Rattle.sound.specs.Change.{Changed, length_as, with_length}
 use Rattle.sound.specs.Live.{length-free}
-use Rattle.sound.specs.Filled.{occupied_once}
-use Rattle.sound.specs.Kept.{length_sound}
-use Rattle.sound.specs.Others.{length_filled_same, grown-filled, grown_filled_same}
+use Rattle.sound.proofs.Filled.{occupied_once}
+use Rattle.sound.proofs.Kept.{length_sound}
+use Rattle.sound.proofs.Others.{length_filled_same, grown-filled, grown_filled_same}
 use Rattle.views.specs.declared.View.{View}
 use Rattle.views.specs.View.{is_inline, is_valid, long_length, repointed}
 use Rattle.views.specs.StoreLaws.{ViewWords, view-fits}

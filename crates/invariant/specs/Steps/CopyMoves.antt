@@ -12,7 +12,7 @@ use Rattle.bits.specs.Bits.{bit_at, bits_from, appended}
 use Rattle.bits.specs.BitLaws.{length-appended, bit_kept, bit_past, bit_appended, bit_cleared, bytes-appended, bits_from_small}
 use Rattle.state.specs.World.{World}
 use Rattle.state.specs.Layout.{width_of, bitmap_bytes, bitmap_place, cell_place, list_length}
-use Rattle.state.specs.LayoutLaws.{bits_fit, bitmap_in}
+use Rattle.state.proofs.LayoutLaws.{bits_fit, bitmap_in}
 use Rattle.state.specs.Where.{Where, cells, bitmap, Inside, cells_inside, bitmap_inside, Other, other_slot, other_column, other_part, behind}
 use Rattle.state.specs.Rows.{listed_at}
 use Rattle.rules.specs.Batch.{Batch, record_of, has_bitmap, bit_of, row_bit}

@@ -15,8 +15,8 @@ use Rattle.views.specs.ShowLaws.{Keeps}
 use Rattle.state.specs.declared.BatchCoalescer.{BatchCoalescer}
 use Rattle.state.specs.World.{World, column_of}
 use Rattle.state.specs.Layout.{width_of, is_views, cell_place, rows_in, list_length, slot_before, queued_slot}
-use Rattle.state.specs.LayoutLaws.{bits_fit}
-use Rattle.state.specs.SlotLaws.{queued_in}
+use Rattle.state.proofs.LayoutLaws.{bits_fit}
+use Rattle.state.proofs.SlotLaws.{queued_in}
 use Rattle.state.specs.Rows.{listed_at, buffer_at}
 use Rattle.rules.specs.Batch.{Batch, record_of, row_view, listed_number, bytes_listed, listed_bytes, value_place, batch_cell}
 use Rattle.rules.specs.Stays.{SameSetUp, Beside, beside_refl, beside_trans}

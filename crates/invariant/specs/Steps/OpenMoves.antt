@@ -19,9 +19,9 @@ use Rattle.sound.specs.Change.{Changed}
 use Rattle.sound.specs.Live.{live_is}
 use Rattle.sound.specs.OpLaws.{taken-changed}
 use Rattle.sound.specs.SoundLaws.{sound_roomy, sound_recount, count_same, count_other}
-use Rattle.sound.specs.Kept.{gap_sound}
+use Rattle.sound.proofs.Kept.{gap_sound}
 use Rattle.sound.specs.Freed.{free-entry, free-uncounted}
-use Rattle.sound.specs.Others.{taken_filled_live}
+use Rattle.sound.proofs.Others.{taken_filled_live}
 use Rattle.sound.specs.Top.{no_free}
 use Rattle.tallies.specs.Tally.{tally_of}
 use Rattle.tallies.specs.TallyLaws.{framed_tally}

@@ -12,7 +12,7 @@ use Rattle.views.specs.StoreLaws.{ViewWords, view-fits}
 use Rattle.views.specs.ShowLaws.{keeps_raised, raise_inline, raise_long, long-says}
 use Rattle.state.specs.World.{World}
 use Rattle.state.specs.Layout.{width_of, is_views, cell_place, list_length}
-use Rattle.state.specs.LayoutLaws.{views_width, cell_in}
+use Rattle.state.proofs.LayoutLaws.{views_width, cell_in}
 use Rattle.state.specs.Rows.{listed_at, buffer_at, slot_cell}
 use Rattle.rules.specs.Batch.{Batch, record_of, listed_number, bytes_listed, listed_bytes, row_view}
 use Rattle.rules.specs.Steps.{in_slots}

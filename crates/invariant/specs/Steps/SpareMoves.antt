@@ -6,7 +6,7 @@ use Rattle.bits.specs.Bits.{bits_from}
 use Rattle.state.specs.declared.BatchCoalescer.{BatchCoalescer}
 use Rattle.state.specs.World.{World}
 use Rattle.state.specs.Layout.{bitmap_bytes, bitmap_place, rows_in}
-use Rattle.state.specs.LayoutLaws.{bits_fit}
+use Rattle.state.proofs.LayoutLaws.{bits_fit}
 use Rattle.state.specs.Rows.{slot_cell}
 use Rattle.rules.specs.Batch.{Batch}
 use Rattle.rules.specs.Views.{span, filling, bits_copied}

@@ -5,7 +5,7 @@ use Rattle.std.proofs.Math.Decide.{dec_lt}
 use Rattle.words.specs.WordLaws.{bytes-with_word32}
 use Rattle.books.specs.Entry.{used_of, entry_of, is_free}
 use Rattle.sound.specs.Sound.{Sound, filled_bytes}
-use Rattle.sound.specs.Others.{filled-same}
+use Rattle.sound.proofs.Others.{filled-same}
 use Rattle.tallies.specs.declared.Tally.{Tally}
 use Rattle.tallies.specs.Tally.{tally_place, tally_of, with_tally}
 use Rattle.tallies.specs.TallyLaws.{OtherTally, slots, slots', words, tally-same, tally_other, length-with_tally, entry-with_tally, used_with_tally}

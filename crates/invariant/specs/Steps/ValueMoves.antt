@@ -13,7 +13,7 @@ use Rattle.views.specs.ShowLaws.{keeps_inline}
 use Rattle.state.specs.declared.BatchCoalescer.{BatchCoalescer}
 use Rattle.state.specs.World.{World}
 use Rattle.state.specs.Layout.{width_of, is_views, cell_place}
-use Rattle.state.specs.LayoutLaws.{views_width, cell_in}
+use Rattle.state.proofs.LayoutLaws.{views_width, cell_in}
 use Rattle.rules.specs.Batch.{Batch, record_of, listed_bytes, value_place, row_view}
 use Rattle.rules.specs.Steps.{in_slots}
 use Rattle.rules.specs.Views.{span, filling, values_laid, values_copied}

@@ -9,7 +9,7 @@ use Rattle.views.specs.StoreLaws.{agrees_view}
 use Rattle.state.specs.declared.OpenBlock.{OpenBlock}
 use Rattle.state.specs.World.{World, column_of}
 use Rattle.state.specs.Layout.{width_of, is_views, cell_place, list_length}
-use Rattle.state.specs.LayoutLaws.{views_width}
+use Rattle.state.proofs.LayoutLaws.{views_width}
 use Rattle.state.specs.Rows.{buffer_at}
 use Rattle.rules.specs.Batch.{Batch, record_of, listed_number, bytes_listed, listed_bytes, value_place, row_view}
 use Rattle.rules.specs.Views.{span, filling, values_copied, list_attached}

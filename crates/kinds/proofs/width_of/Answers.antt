@@ -14,38 +14,38 @@ single = (17 ∷ []) ∷ (16 ∷ []) ∷ (4 ∷ 8 ∷ 11 ∷ []) ∷ (3 ∷ 7 �
 
 pub returns-in-1 : goal.returns-in-1
 unfolding width_at kind_of
-returns-in-1 c = width_arm 1 c.args.kind c.in_default-1.keys1 (search (wide_one, wide_or))
+returns-in-1 c = width_arm 1 c.args.kind c.in-1.is (search (wide_one, wide_or))
 
 pub returns-in-2 : goal.returns-in-2
 unfolding width_at kind_of
-returns-in-2 c = width_arm 2 c.args.kind c.in_default-1.keys2 (search (wide_one, wide_or))
+returns-in-2 c = width_arm 2 c.args.kind c.in-2.is (search (wide_one, wide_or))
 
 pub returns-in-3 : goal.returns-in-3
 unfolding width_at kind_of
-returns-in-3 c = width_arm 4 c.args.kind c.in_default-1.keys3 (search (wide_one, wide_or))
+returns-in-3 c = width_arm 4 c.args.kind c.in-3.is (search (wide_one, wide_or))
 
 pub returns-in-17 : goal.returns-in-17
 unfolding width_at kind_of
-returns-in-17 c = width_arm 32 c.args.kind c.in_default-1.keys6 (search wide_one)
+returns-in-17 c = width_arm 32 c.args.kind c.in-17.is (search wide_one)
 
 pub returns-in_default : goal.returns-in_default
-returns-in_default c = width_zero _ (omega (arith, c.if-kind-lt1.true))
+returns-in_default c = width_zero _ (omega arith)
 
 pub returns-in_default-2 : goal.returns-in_default-2
-returns-in_default-2 c = width_past _ (omega (arith, c.if-kind-lt20.false))
+returns-in_default-2 c = width_past _ (omega arith)
 
 pub returns-in-16 : goal.returns-in-16
 unfolding width_at kind_of
-returns-in-16 c = width_arm 16 c.args.kind c.in_default-1.keys5 (search wide_one)
+returns-in-16 c = width_arm 16 c.args.kind c.in-16.in-16-own.keys5 (search wide_one)
 
 pub returns-in-16-2 : goal.returns-in-16-2
 unfolding every width_at kind_of
-returns-in-16-2 c = width_range 16 16 4 single refl _ c.if-kind-lt16.false c.if-kind-lt20.true c.in_default-1.rest
+returns-in-16-2 c = width_range 16 16 4 single refl _ (omega arith) (omega arith) c.in-16.in_default-own.rest
 
 pub returns-in-4 : goal.returns-in-4
 unfolding width_at kind_of
-returns-in-4 c = width_arm 8 c.args.kind c.in_default-1.keys4 (search (wide_one, wide_or))
+returns-in-4 c = width_arm 8 c.args.kind c.in-4.in-4-own.keys4 (search (wide_one, wide_or))
 
 pub returns-in-4-2 : goal.returns-in-4-2
 unfolding every width_at kind_of
-returns-in-4-2 c = width_range 8 1 15 single refl _ c.if-kind-lt1.false c.if-kind-lt16.true c.in_default-1.rest
+returns-in-4-2 c = width_range 8 1 15 single refl _ (omega arith) (omega arith) c.in-4.in_default-own.rest

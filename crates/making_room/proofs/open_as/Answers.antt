@@ -11,7 +11,7 @@ pub entry_at-old-requires : goal.entry_at-old-requires
 entry_at-old-requires c = search (number_room, rules)
 
 pub overflow_cast-e : goal.overflow_cast-e
-overflow_cast-e c = let f = c.before in record { fits = capacity_fits _ _ _ _ f.before.before.choose.ensures f.room.given.1 (omega (arith, c.well-formed.1.1.0)) }
+overflow_cast-e c = record { fits = capacity_fits _ _ _ _ c.choose-room.ensures c.in-At.is (omega arith) }
 
 pub take_entry-requires : goal.take_entry-requires
 take_entry-requires c = search (number_room, number_few, rules)

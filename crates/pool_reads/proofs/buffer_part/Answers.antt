@@ -11,7 +11,7 @@ pub slice_bounds-result-end : goal.slice_bounds-result-end
 slice_bounds-result-end c = search (part_within, rules)
 
 pub returns-then-buffer_refusal-eq0 : goal.returns-then-buffer_refusal-eq0
-returns-then-buffer_refusal-eq0 c = (search (part_is, rules), search (part_there, rules))
+returns-then-buffer_refusal-eq0 c = record { result_value = search (part_is, rules); part_at = search (part_there, rules) }
 
 pub returns-else-buffer_refusal-eq0 : goal.returns-else-buffer_refusal-eq0
-returns-else-buffer_refusal-eq0 c = (search (part_not, rules), search (part_refused, rules))
+returns-else-buffer_refusal-eq0 c = record { result_value = search (part_not, rules); part_at = search (part_refused, rules) }

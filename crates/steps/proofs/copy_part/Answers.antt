@@ -29,16 +29,16 @@ pub copy_column-step-requires : goal.copy_column-step-requires
 copy_column-step-requires c = copied_asks c.requires c.loop-c.invariant.6 c.loop-c-test.true c.loop-c.invariant.5
 
 pub loop-c-preserved : goal.loop-c-preserved
-loop-c-preserved c = (omega (arith, c.loop-c-test.true), c.loop-c.invariant.1, search (c.slots-in_default-1.given, c.loop-c.invariant.2, rules), search (c.pool-1.given, c.loop-c.invariant.3, rules), search (c.books-1.given, c.loop-c.invariant.4, rules), place-more _ (part_few c.requires) c.requires.run.fit.place c.loop-c-test.true c.loop-c.invariant.5 c.column_size-place.ensures.0, copied_more c.requires c.loop-c.invariant.6 c.loop-c-test.true c.loop-c.place c.copy_column-step.ensures c.if-step-eq0.true)
+loop-c-preserved c = (omega (arith, c.loop-c-test.true), c.loop-c.invariant.1, search (c.copy_column-step.auto.slots, c.loop-c.invariant.2, rules), search (c.copy_column-step.auto.pool, c.loop-c.invariant.3, rules), search (c.copy_column-step.auto.books, c.loop-c.invariant.4, rules), place-more _ (part_few c.requires) c.requires.run.fit.place c.loop-c-test.true c.loop-c.invariant.5 c.column_size-place.ensures.0, copied_more c.requires c.loop-c.invariant.6 c.loop-c-test.true c.loop-c.place c.copy_column-step.ensures c.if-step-eq0.true)
 
 pub shape_of-slots-else-step-eq0 : goal.shape_of-slots-else-step-eq0
-shape_of-slots-else-step-eq0 c = search (c.slots-in_default-1.given, c.loop-c.invariant.2, rules)
+shape_of-slots-else-step-eq0 c = search (c.copy_column-step.auto.slots, c.loop-c.invariant.2, rules)
 
 pub shape_of-pool-else-step-eq0 : goal.shape_of-pool-else-step-eq0
-shape_of-pool-else-step-eq0 c = search (c.pool-1.given, c.loop-c.invariant.3, rules)
+shape_of-pool-else-step-eq0 c = search (c.copy_column-step.auto.pool, c.loop-c.invariant.3, rules)
 
 pub shape_of-books-else-step-eq0 : goal.shape_of-books-else-step-eq0
-shape_of-books-else-step-eq0 c = search (c.books-1.given, c.loop-c.invariant.4, rules)
+shape_of-books-else-step-eq0 c = search (c.copy_column-step.auto.books, c.loop-c.invariant.4, rules)
 
 pub returns-else-step-eq0 : goal.returns-else-step-eq0
 returns-else-step-eq0 c = copied_stop c.requires c.loop-c.invariant.6 c.loop-c-test.true c.loop-c.place c.copy_column-step.ensures c.if-step-eq0.false

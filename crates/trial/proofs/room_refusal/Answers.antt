@@ -1,6 +1,6 @@
 -- `trial::room_refusal` meets its contract.
 use native.Mathlib.Omega.{arith}
-use Rattle.room.specs.BackLaws.{tried_end_room, back_is}
+use Rattle.room.proofs.BackLaws.{tried_end_room, back_is}
 use Rattle.trial.specs.NumberLaws.{room_answers}
 use Rattle.trial.specs.SourcedLaws.{pushing_trying, pushing_triable, pushing-below}
 use Rattle.trial_column.specs.TryingLaws.{trying_roomy}

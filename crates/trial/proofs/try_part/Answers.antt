@@ -15,7 +15,7 @@ pub record_at-r-requires : goal.record_at-r-requires
 record_at-r-requires c = record_asks c.args.from c.args.n.0 c.requires.1 c.loop-c.invariant.3 c.loop-c-test.true
 
 pub loop-c-preserved-in-Copied : goal.loop-c-preserved-in-Copied
-loop-c-preserved-in-Copied c = (omega (arith, c.loop-c-test.true), c.loop-c.invariant.1, c.loop-c.invariant.2, c.loop-c.invariant.3, to-more c.loop-c.invariant.4 c.loop-c.invariant.3.tries.set_up c.loop-c-test.true c.record_at-r.ensures (tells_copied c.enum_told-1.given.1) refl)
+loop-c-preserved-in-Copied c = (omega (arith, c.loop-c-test.true), c.loop-c.invariant.1, c.loop-c.invariant.2, c.loop-c.invariant.3, to-more c.loop-c.invariant.4 c.loop-c.invariant.3.tries.set_up c.loop-c-test.true c.record_at-r.ensures (tells_copied c.in-Copied.is) refl)
 
 pub try_column-step-requires : goal.try_column-step-requires
 try_column-step-requires c = (

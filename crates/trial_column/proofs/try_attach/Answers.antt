@@ -15,7 +15,7 @@ pub with_column-t-requires : goal.with_column-t-requires
 with_column-t-requires c = search (trying_column, rules)
 
 pub returns-then-n-r : goal.returns-then-n-r
-returns-then-n-r c = (search (column-shut, rules), tells_attached c.requires.1 c.list_closed-n.ensures.0 c.if-n-r.true c.column_of_lem.ensures c.with_column-t.ensures)
+returns-then-n-r c = (search (column-shut, rules), tells_attached c.requires.1 c.list_closed-n.ensures.0 c.if-n-r.true c.column_of.ensures c.with_column-t.ensures)
 
 pub returns-else-n-r : goal.returns-else-n-r
 returns-else-n-r c = (column-none c.requires.0, tells_full c.requires.1 c.list_closed-n.ensures.0 c.if-n-r.false)

@@ -6,7 +6,7 @@ use Rattle.words.specs.Frame.{Apart, under, over}
 use Rattle.words.specs.FrameLaws.{apart_part}
 use Rattle.state.specs.declared.BatchCoalescer.{BatchCoalescer}
 use Rattle.state.specs.Layout.{width_of, list_bytes, values_place, list_place, cell_place, slots_length}
-use Rattle.state.specs.LayoutLaws.{
+use Rattle.state.proofs.LayoutLaws.{
   cell_starts,
   bitmap_follows,
   list_follows,

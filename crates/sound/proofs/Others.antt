@@ -17,7 +17,7 @@ use Rattle.sound.specs.OpLaws.{taken-changed, freed-changed, length-changed, lis
 use Rattle.sound.specs.Live.{unused_still}
 use Rattle.sound.specs.Top.{no_free}
 use Rattle.sound.specs.SoundLaws.{sound_roomy}
-use Rattle.sound.specs.Filled.{block_filled}
+use Rattle.sound.proofs.Filled.{block_filled}
 use Rattle.sound.specs.Freed.{free-entry}
 
 -- entries with the same start and length

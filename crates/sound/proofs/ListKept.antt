@@ -14,9 +14,9 @@ use Rattle.sound.specs.Change.{Roomy, listings_as, or_free}
 use Rattle.sound.specs.OpLaws.{changed_roomy, listed-changed, unlisted_changed}
 use Rattle.sound.specs.Live.{live_is, live_says, less_live, unused_still, unused_listings}
 use Rattle.sound.specs.SoundLaws.{sound_roomy, changed-each}
-use Rattle.sound.specs.Lists.{occurrences, occurs_here, occurs_grows, unlisted_all_sound, listed_all_sound}
+use Rattle.sound.proofs.Lists.{occurrences, occurs_here, occurs_grows, unlisted_all_sound, listed_all_sound}
 use Rattle.sound.specs.Freed.{unlisted_live}
-use Rattle.sound.specs.Others.{filled-same}
+use Rattle.sound.proofs.Others.{filled-same}
 
 -- f is e but for its listings
 pub record Relisted (e f : Entry) : Type 0 where

@@ -12,7 +12,7 @@ use Rattle.sound.specs.Change.{Roomy}
 use Rattle.sound.specs.OpLaws.{listed-changed}
 use Rattle.sound.specs.Live.{more_live}
 use Rattle.sound.specs.SoundLaws.{count_same, count_other, sound_roomy, sound_recount, changed-each}
-use Rattle.sound.specs.Kept.{listed_sound, unlisted_sound}
+use Rattle.sound.proofs.Kept.{listed_sound, unlisted_sound}
 
 -- how often number i stands among the first c numbers of the list l
 unfoldable pub occurrences : List ℕ → ℕ → ℕ → ℕ

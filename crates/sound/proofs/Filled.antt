@@ -8,7 +8,6 @@ use Rattle.words.specs.FrameLaws.{agrees_read}
 use Rattle.books.specs.declared.Entry.{Entry}
 use Rattle.books.specs.Entry.{used_of, entry_of, is_free}
 use Rattle.books.specs.EntryLaws.{Occupies}
-use Rattle.books.specs.GapLaws.{GapAt}
 use Rattle.sound.specs.Sound.{Sound, filled_bytes}
 use Rattle.sound.specs.Top.{live_used}
 use Rattle.sound.specs.SoundLaws.{no_share_says, sound_top}
@@ -65,10 +64,6 @@ module _ {s : List ℕ} {n p : ℕ} {count : ℕ → ℕ} (w : Sound s n p count
           let live : is_free (entry_of s k) ≡ false = room_live k h (omega arith) in
           clear k (live_used k (sound_top w) h live)
           (record { live = live; shares = record { some = omega arith; other = omega arith; below = omega arith; above = omega arith } })
-
-  -- bytes written in a gap
-  pub gap_filled : (t size : ℕ) {pool after : List ℕ} → p ≤ length pool → Framed t (t + size) pool after → GapAt s p size t → (k : ℕ) → k < n → filled_bytes s after k ≡ filled_bytes s pool k
-  gap_filled t size l f g = clear_filled t size l f g.clear
 
   -- bytes written in the free part of block i, which may be k itself
   pub block_filled : (i : ℕ) {pool after : List ℕ} → p ≤ length pool → i < n → Framed ((entry_of s i).start + (entry_of s i).length.0) ((entry_of s i).start + (entry_of s i).capacity.0) pool after → (k : ℕ) → k < n → filled_bytes s after k ≡ filled_bytes s pool k
