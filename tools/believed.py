@@ -40,8 +40,8 @@ class Field:
 
 
 def item_of(repository, crate, file, name):
-    found = repository.files.get((crate, file))
-    items = found and found.items.get(name)
+    """A definition or theorem of a file of specs/, or of the file of that name beside the proofs."""
+    items = [item for key in (file, f'proofs.{file}') if (crate, key) in repository.files for item in repository.files[(crate, key)].items.get(name, [])]
     if not items:
         raise antt.Unresolved(f'{crate}/{file} has no {name}')
     if len(items) > 1:
