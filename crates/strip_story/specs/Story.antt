@@ -4,7 +4,6 @@ use Rattle.std.specs.Prelude.{ℕ, ◌≡◌, true, List, ◌++◌}
 use Rattle.state.specs.Rows.{Row, joined, queued_rows, buffered_rows}
 use Rattle.rules.specs.Calls.{Wanted, set_up_call, is_empty}
 use Rattle.history.specs.Call.{Did}
-use Rattle.history.proofs.History.{did}
 use Rattle.history.specs.Stray.{Turns}
 use Rattle.outs.specs.Outs.{Strip, empty}
 use Rattle.strip_story.specs.StripAfter.{strip_after}
