@@ -108,7 +108,7 @@ pub fn a_drop() -> Fetched {
 
 // How many bytes came to the front of a memory, and whether a read failed behind them.
 #[derive(Clone, Copy)]
-pub struct Came {
+pub(crate) struct Came {
     pub count: usize,
     pub failed: bool,
 }
