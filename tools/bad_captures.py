@@ -1,6 +1,6 @@
 #!/usr/bin/env python3
 """Plays captures that are cut, too long or odd with the programs `court` and `strip`, and holds what a person sees: the lines (of `court`), the fault,
-the exit status. usage: bad_captures.py (after `rt check court strip`). Exit status 1 where one is not as it should be."""
+the exit status. usage: bad_captures.py (after `rt ci`, which builds the two). Exit status 1 where one is not as it should be."""
 import os
 import struct
 import subprocess

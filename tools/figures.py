@@ -1,7 +1,7 @@
 #!/usr/bin/env python3
-"""Figures of every crate: lines of code, definitions, laws and proofs, must-fail edits, and the seconds that a run of the gate took.
+"""Figures of every crate as it stands: lines of code, definitions, laws and proofs, must-fail edits.
 
-usage: figures.py LOG [MOST]   LOG is what .ci/run printed; MOST crates, dearest first (all of them where it is not given)"""
+usage: figures.py [MOST]   MOST crates, longest first (all of them where it is not given)"""
 import pathlib
 import re
 import sys
@@ -19,26 +19,15 @@ def crate(folder):
             lines((folder / 'proofs').rglob('*.antt')), len(list((folder / 'must-fail').glob('*.edit'))))
 
 
-def seconds(log):
-    """Seconds of each crate's check, and of its edits together."""
-    checks = {n: int(s) for n, s in re.findall(r'^rt: (\w+) proved \((\d+) s\)', log, re.M)}
-    edits = {}
-    for name, s in re.findall(r'^rt: must-fail (\w+)/\w+: .*?(\d+) s\)$', log, re.M):
-        edits[name] = edits.get(name, 0) + int(s)
-    return checks, edits
-
-
 def main():
-    if len(sys.argv) not in (2, 3):
-        sys.exit('usage: figures.py LOG [MOST]')
-    checks, edits = seconds(pathlib.Path(sys.argv[1]).read_text())
-    names = sorted(checks, key=lambda n: -(checks[n] + edits.get(n, 0)))
-    rows = [(n, *crate(pathlib.Path('crates') / n), checks[n], edits.get(n, 0)) for n in names]
-    print('| crate | code | definitions | laws | proofs | edits | check | its edits |\n|---|---|---|---|---|---|---|---|')
-    for n, code, definitions, laws, proofs, count, check, edit in rows[:int(sys.argv[2])] if len(sys.argv) > 2 else rows:
-        print(f'| {n} | {code} | {definitions} | {laws} | {proofs} | {count} | {check} s | {edit} s |')
-    sums = [sum(r[i] for r in rows) for i in range(1, 8)]
-    print('| all %d | %d | %d | %d | %d | %d | %d s | %d s |' % (len(rows), *sums))
+    if len(sys.argv) > 2 or sys.argv[1:] and not sys.argv[1].isdigit():
+        sys.exit('usage: figures.py [MOST]')
+    folders = [f for f in (pathlib.Path(__file__).resolve().parent.parent / 'crates').iterdir() if (f / 'src').is_dir()]
+    rows = sorted(((f.name, *crate(f)) for f in folders), key=lambda row: (-sum(row[1:5]), row[0]))
+    print('| crate | code | definitions | laws | proofs | edits |\n|---|---|---|---|---|---|')
+    for row in rows[:int(sys.argv[1])] if sys.argv[1:] else rows:
+        print('| %s | %d | %d | %d | %d | %d |' % row)
+    print('| all %d | %d | %d | %d | %d | %d |' % (len(rows), *[sum(row[i] for row in rows) for i in range(1, 6)]))
 
 
 main()
