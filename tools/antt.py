@@ -1,10 +1,10 @@
-"""Reads definitions: the items of every specs file, the structs and enums of the code, the contracts of its functions. A line that begins no item
+"""Reads definitions: the items of every specs file and of the theorems beside proofs, the structs and enums of the code, the contracts of its functions. A line that begins no item
 is an error."""
 import pathlib
 import re
 
-# a slice's bytes before and after a call
-SLICE = {'entry', 'exit'}
+# what a borrow is when a call begins, when it ends; what a shared one is; and where it points
+BORROW = {'old', 'new', 'now', 'entry', 'ref_ptr'}
 PRIMITIVE = {'u8', 'u16', 'u32', 'u64', 'u128', 'usize', 'bool', 'mut', 'pub'}
 HEAD = re.compile(r'^( *)(unfoldable pub|unfoldable|abbrev pub|abbrev|pub record|record|pub data|data|pub) +(.+)$')
 PLAIN = re.compile(r'^( *)([^\s(){}=:.,;|]+)((?: \{[^}]*\})*) :(?: |$)')
@@ -154,7 +154,9 @@ class Source:
     def __init__(self, crate, path):
         self.crate, self.path = crate, path
         text = self.text = path.read_text()
-        self.uses = {n: c for c, n in re.findall(r'^use (\w+)::(\w+);', text, re.M)}
+        self.uses = {}
+        for used, one, several in re.findall(r'^(?:pub )?use (\w+)::(?:(\w+)|\{([^}]*)\});', text, re.M):
+            self.uses |= {name.strip(): used for name in (several or one).split(',') if name.strip()}
         self.imports, self.alias = {}, {}
         for module, names in re.findall(r'^ghost use ([^\s{]+?)\.\{([^}]*)\};', text, re.M):
             for name in filter(None, map(str.strip, names.split(','))):
@@ -166,27 +168,34 @@ class Source:
         for found in re.finditer(r'^pub (?:struct|enum) (\w+)(?:\([^)]*\);|\s*\{.*?^\})', text, re.M | re.S):
             self.types[found.group(1)] = Declared(crate, found.group(1), found.group(), text[:found.start()].count('\n') + 1)
         self.functions = {}
-        pattern = r'^(#\[no_mangle\]\n)?(?:pub )?(?:extern "C" )?fn (\w+)(?:<[^>]*>)?(\(.*?)^\{'
+        pattern = r'^(#\[unsafe\(no_mangle\)\]\n)?(?:pub )?(?:extern "C" )?fn (\w+)(?:<[^>]*>)?(\(.*?)^\{'
         for found in re.finditer(pattern, text, re.M | re.S):
             head = found.group(3)
-            ensures = re.search(r'ensures \{ (λ .*?⌜.*?⌝) \}', head, re.S)
-            cut = re.split(r'\b(?:ensures|requires) \{', head)[0]
-            self.functions[found.group(2)] = Function(crate, found.group(2), bool(found.group(1)), cut, ensures and ensures.group(1), 'requires {' in head)
+            cut, *clauses = re.split(r'^ *(ensures|requires)(?: \w+)? \{', head, flags=re.M)
+            promised = [text.rstrip().removesuffix('}') for word, text in zip(clauses[::2], clauses[1::2]) if word == 'ensures']
+            self.functions[found.group(2)] = Function(crate, found.group(2), bool(found.group(1)), cut, ' ; '.join(promised), 'requires' in clauses)
 
 
 class Repository:
-    """Every specs file and every file of the code."""
+    """Every specs file, the theorems beside proofs (as files `proofs.NAME`), and every file of the code."""
 
     def __init__(self, root):
         self.root = pathlib.Path(root)
         self.files, self.sources = {}, {}
+        self.crates = {path.name for path in self.root.glob('crates/*')}
         for path in sorted(self.root.glob('crates/*/specs/**/*.antt')):
             crate = path.relative_to(self.root).parts[1]
             inner = '.'.join(path.relative_to(self.root / 'crates' / crate / 'specs').with_suffix('').parts)
             self.files[(crate, inner)] = File((crate, inner), path)
+        # what stands in no function's folder: theorems that rest on others
+        for path in sorted(self.root.glob('crates/*/proofs/**/*.antt')):
+            crate = path.relative_to(self.root).parts[1]
+            inner = path.relative_to(self.root / 'crates' / crate).with_suffix('').parts
+            if all(part[0].isupper() for part in inner[1:]):
+                self.files[(crate, '.'.join(inner))] = File((crate, '.'.join(inner)), path)
         for path in sorted(self.root.glob('crates/*/src/*.rt')):
             self.sources[(path.relative_to(self.root).parts[1], path.stem)] = Source(path.relative_to(self.root).parts[1], path)
-        self.fields = {m for f in self.files.values() for i in f.order if i.kind.endswith('record') for m in i.members} | SLICE
+        self.fields = {m for f in self.files.values() for i in f.order if i.kind.endswith('record') for m in i.members} | BORROW
         for source in self.sources.values():
             for declared in source.types.values():
                 self.fields |= set(declared.fields)
@@ -200,8 +209,8 @@ class Repository:
 
     def module(self, module):
         """The crate and file that a module's name stands for; None for a library of the kit."""
-        found = re.match(r'Rattle·([a-z_0-9]+)(?:·specs)?\.specs\.(.+)$', module)
-        return found and (found.group(1), found.group(2))
+        found = re.match(r'Rattle\.([a-z_0-9]+)\.(?:specs\.(.+)|(proofs\.[A-Z].*))$', module)
+        return found and found.group(1) in self.crates and (found.group(1), found.group(2) or found.group(3))
 
     def imported(self, module, name):
         """The items that an import names: of a specs file, of the code, or none, of the kit."""

@@ -25,7 +25,7 @@ BY_VALUE = {'new': 'new_coalescer', 'strip_new': 'new_strip', 'strip_read': 'rea
 PLAIN = {('outs', 'new_strip')}
 # what such a call takes
 STATE = {'BatchCoalescer', 'Wanted'}
-ORDER = ('history', 'History', 'in-order')
+ORDER = ('history', 'History', 'in_order_lem')
 WORKED = ('worked', 'Worked', 'worked')
 # premises that every world of a history meets, by a theorem: what they say need not be believed
 MET = {('invariant', 'Holding', 'Between'): 'history/History `histories`'}
@@ -40,8 +40,8 @@ class Field:
 
 
 def item_of(repository, crate, file, name):
-    found = repository.files.get((crate, file))
-    items = found and found.items.get(name)
+    """A definition or theorem of a file of specs/, or of the file of that name beside the proofs."""
+    items = [item for key in (file, f'proofs.{file}') if (crate, key) in repository.files for item in repository.files[(crate, key)].items.get(name, [])]
     if not items:
         raise antt.Unresolved(f'{crate}/{file} has no {name}')
     if len(items) > 1:
@@ -101,7 +101,7 @@ def exported(repository):
         if len(found) != 1:
             raise antt.Unresolved(f'{source.path}: {len(found)} functions {name} by value stand behind {function.name}')
         calls += found
-    marked = sum(source.text.count('#[no_mangle]') for source in repository.sources.values())
+    marked = sum(source.text.count('#[unsafe(no_mangle)]') for source in repository.sources.values())
     if not layer or len(layer) != marked:
         raise antt.Unresolved(f'{marked} functions are exported, {len(layer)} of them can be read')
     return layer, calls
@@ -123,7 +123,7 @@ def theorems(repository):
     found = []
     for line in (repository.root / 'docs/THEOREMS.md').read_text().split('\n'):
         cells = [cell.strip() for cell in line.split('|')]
-        if len(cells) < 5 or '`' not in cells[2] or 'specs/' not in cells[3]:
+        if len(cells) < 5 or '`' not in cells[2] or not re.search('specs/|proofs/', cells[3]):
             continue
         files = files_of(cells[3])
         field = re.search(r'the field `([^`]+)` of `([^`]+)`', cells[2])
@@ -140,13 +140,15 @@ def theorems(repository):
 
 
 def files_of(cell):
-    """`history/specs/History, Refusals` as crates and files."""
-    crate, files = None, []
+    """`history/specs/History, Refusals, room/proofs/BackLaws` as crates and files."""
+    crate, before, files = None, '', []
     for part in cell.replace('`', '').split(','):
         part = part.strip().removesuffix('.antt')
-        if '/specs/' in part:
-            crate, part = part.split('/specs/')
-        files.append((crate, part.replace('/', '.')))
+        for folder in ('specs', 'proofs'):
+            if f'/{folder}/' in part:
+                crate, part = part.split(f'/{folder}/')
+                before = 'proofs.' if folder == 'proofs' else ''
+        files.append((crate, before + part.replace('/', '.')))
     return files
 
 
@@ -157,10 +159,14 @@ def one(repository, files, name):
     raise antt.Unresolved(f'docs/THEOREMS.md: {name} is in none of {files}')
 
 
+def ends(name):
+    parts = re.split('[-_]', name)
+    return {parts[0], parts[-1]}
+
+
 def like(repository, files, names):
-    ends = {name.split('-')[0] for name in names} | {name.split('-')[-1] for name in names}
-    return [item for key in files for item in repository.files[key].order
-            if item.kind == 'pub' and item.name not in names and ({item.name.split('-')[0], item.name.split('-')[-1]} & ends)]
+    wanted = set().union(*map(ends, names))
+    return [item for key in files for item in repository.files[key].order if item.kind == 'pub' and item.name not in names and ends(item.name) & wanted]
 
 
 def rows_of(repository):

@@ -7,14 +7,16 @@ import re
 from antt import PLAIN, File, Source, Unresolved
 
 WORDS = set('λ let in record where elim abstract Type → = : ↦ | × ⊥ Unit pub'.split())
-# what a contract's text has besides: `now` reads a slice
-CONTRACT = {'now'}
+# what a contract's text has besides: the answer
+CONTRACT = {'result'}
+# where the paths of the kit's own modules begin (those of this repository's crates begin with Rattle too)
+KIT = {'Rattle', 'mathlib', 'lib', 'Prim'}
 
 
 class Names:
     """The names in a text: what each stands for, and which are the kit's."""
 
-    TOKEN = re.compile(r'[(){}\[\];,|⌜⌝]|[^\s(){}\[\];,|⌜⌝]+')
+    TOKEN = re.compile(r'[(){}\[\];,|]|[^\s(){}\[\];,|]+')
 
     def __init__(self, repository, scope, where, own=()):
         self.repository, self.scope, self.where, self.own = repository, scope, where, set(own)
@@ -22,7 +24,7 @@ class Names:
 
     def lookup(self, name):
         """The items that a name of this file stands for; None where it is none of the file's names."""
-        for form in (name, f'_{name}_', f'_{name}', f'{name}_'):
+        for form in (name, f'◌{name}◌', f'◌{name}', f'{name}◌'):
             if isinstance(self.scope, File):
                 found = self.repository.in_file(self.scope, form)
                 if found:
@@ -37,12 +39,15 @@ class Names:
         return None
 
     def qualified(self, token):
-        """A case of an enum, `Limit.Unset`; or a name of a module with another name, `calls.Dropped`."""
+        """A case of an enum, `Limit.Unset`; a name of a module with another name, `calls.Dropped`; or a module's path and the name in it."""
         first, _, last = token.rpartition('.')
         if self.repository.module(first):
             return self.repository.imported(first, last)
         if first in self.scope.alias:
             return self.repository.imported(self.scope.alias[first], last)
+        if first.split('.')[0] in KIT:
+            self.kit.add((first, last))
+            return []
         found = self.lookup(first)
         if found is None:
             raise Unresolved(f'{self.where}: nothing explains {token}')
@@ -50,6 +55,15 @@ class Names:
         if last not in cases:
             raise Unresolved(f'{self.where}: {first} has no {last}')
         return found
+
+    def projected(self, token, bound, maybe):
+        """`w.state.columns`: a variable or a definition, and fields of it. None where the first part is neither, but a module or a type."""
+        first, _, fields = token.partition('.')
+        if first in self.scope.alias or first in KIT or first not in bound | maybe and first[:1].isupper():
+            return False
+        self.token(first, bound, maybe)
+        self.field(fields)
+        return True
 
     def field(self, token):
         for name in token.strip('.').split('.'):
@@ -78,7 +92,7 @@ class Names:
         braces = []
         for i, token in enumerate(tokens):
             before, after = tokens[i - 1] if i else '', tokens[i + 1] if i + 1 < len(tokens) else ''
-            if token in '(){}[];,|⌜⌝':
+            if token in '(){}[];,|':
                 if token == '{':
                     braces.append(before == 'record')
                 elif token == '}':
@@ -98,7 +112,8 @@ class Names:
         elif token.endswith('.'):
             self.token(token[:-1], bound, maybe)
         elif '.' in token:
-            self.items += self.qualified(token)
+            if not self.projected(token, bound, maybe):
+                self.items += self.qualified(token)
         elif token not in bound:
             found = self.lookup(token)
             if found is None and token not in maybe and token not in self.own:

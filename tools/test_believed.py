@@ -15,9 +15,9 @@ FILES = {
     'docs/DEFINITIONS.md': f'words\n{believed.BEGIN}\n{believed.END}\nmore\n',
     'crates/low/src/lib.rt': 'pub struct Inner(pub u32);\n\npub struct Outer {\n    pub inner: Inner,\n}\n\npub struct Wanted(pub u32);\n\npub enum Way {\n    One,\n    Two(u32),\n}\n',
     'crates/low/specs/Low.antt': '''-- low
-use Prim.Native.Nat.{ℕ, zero, suc, _+_}
-use Rattle·low·specs.specs.declared.Outer.{Outer}
-use Rattle·low·specs.specs.declared.Way.{Way}
+use Rattle.std.specs.Prelude.{ℕ, zero, suc, ◌+◌}
+use Rattle.low.specs.declared.Outer.{Outer}
+use Rattle.low.specs.declared.Way.{Way}
 
 -- one comment
 abbrev pub deepest : ℕ → ℕ
@@ -45,68 +45,66 @@ pub record Pair : Type 0 where
   pub left : ℕ
   pub right : Outer
 
-abbrev pub _⊕_ : ℕ → ℕ → ℕ
-_⊕_ a b = a + b
+abbrev pub ◌⊕◌ : ℕ → ℕ → ℕ
+◌⊕◌ a b = a + b
 
-abbrev pub byWay : Way → ℕ
-byWay Way.One = 0
-byWay (Way.Two n) = n
+abbrev pub by_way : Way → ℕ
+by_way Way.One = 0
+by_way (Way.Two n) = n
 
 abbrev pub unused : ℕ
 unused = 0
 ''',
-    'crates/high/src/lib.rt': '''ghost use mathlib.Core.Path.{_≡_};
-ghost use Rattle·high·specs.specs.High.{promised};
+    'crates/high/src/lib.rt': '''ghost use Rattle.std.specs.Prelude.{◌≡◌};
+ghost use Rattle.high.specs.High.{promised};
 use low::Outer;
 use low::Wanted;
 
 pub fn thing(x: Outer, y: Wanted) -> u32
-    ensures { λ r. ⌜ r ≡ promised ⌝ }
+    ensures { result ≡ promised }
 {
     0
 }
 ''',
     'crates/high/specs/High.antt': '''-- high
-use Prim.Native.Nat.{ℕ, _<_}
-use mathlib.Core.Bool.{true, false}
-use Rattle·low.specs.Low.{helped, either, Answer, good, Pair}
-use Rattle·low.specs.Low as low
+use Rattle.std.specs.Prelude.{ℕ, ◌<◌, true, false}
+use Rattle.low.specs.Low.{helped, either, Answer, good, Pair}
+use Rattle.low.specs.Low as low
 
 abbrev pub promised : ℕ
 promised = let x = helped 1 in elim true [ | true ↦ either x | false ↦ low.deepest x ]
 
 pub record Kept (p : Pair) : Type 0 where
-  pub fact : p .left < 5
+  pub fact : p.left < 5
   pub other : low.unused < 5
 ''',
-    'crates/capi/src/lib.rt': '''ghost use mathlib.Core.Path.{_≡_};
-ghost use Rattle·high.specs.High.{promised};
+    'crates/capi/src/lib.rt': '''ghost use Rattle.std.specs.Prelude.{◌≡◌};
+ghost use Rattle.high.specs.High.{promised};
 
-#[no_mangle]
+#[unsafe(no_mangle)]
 pub extern "C" fn pw_thing(x: u32) -> u32
-    ensures { λ r. ⌜ r ≡ promised ⌝ }
+    ensures { result ≡ promised }
 {
     high::thing(x)
 }
 ''',
     'crates/history/specs/History.antt': '''-- history
-use Prim.Native.Nat.{ℕ}
-use mathlib.Core.Path.{_≡_, refl}
-use Rattle·low.specs.Low.{Answer, good, byWay}
+use Rattle.std.specs.Prelude.{ℕ, ◌≡◌, refl}
+use Rattle.low.specs.Low.{Answer, good, by_way}
 
 module _ (a : Answer) (e : a ≡ good) where
   abbrev pub kept : Answer
   kept = a
 
-  pub in-order : kept ≡ good
-  in-order = e
+  pub in_order_lem : kept ≡ good
+  in_order_lem = e
 
-  pub told : byWay ≡ byWay
+  pub told : by_way ≡ by_way
   told = refl
 ''',
     'crates/worked/specs/Worked.antt': '''-- worked
-use mathlib.Core.Path.{_≡_, refl}
-use Rattle·low.specs.Low.{number}
+use Rattle.std.specs.Prelude.{◌≡◌, refl}
+use Rattle.low.specs.Low.{number}
 
 pub worked : number ≡ 7
 worked = refl
@@ -136,7 +134,7 @@ class Planted(unittest.TestCase):
             believed.made(self.repository(**changes))
 
     def test_follows_every_kind_of_name(self):
-        wanted = {'promised', 'helped', 'deepest', 'either', 'number', 'Answer', 'kept', 'byWay', 'Way', 'Outer', 'Inner', 'Pair', 'Wanted'}
+        wanted = {'promised', 'helped', 'deepest', 'either', 'number', 'Answer', 'kept', 'by_way', 'Way', 'Outer', 'Inner', 'Pair', 'Wanted'}
         self.assertEqual(self.names(self.repository()), wanted)
 
     def test_a_variable_of_one_clause_is_a_name_in_another(self):
@@ -150,41 +148,58 @@ class Planted(unittest.TestCase):
         self.assertIn('unused', self.names(self.repository(crates_low_specs_Low_antt=('go zero = 0', 'go zero = unused'))))
 
     def test_a_definition_added_to_a_field(self):
-        self.assertIn('unused', self.names(self.repository(crates_high_specs_High_antt=('p .left < 5', 'p .left < low.unused'))))
+        self.assertIn('unused', self.names(self.repository(crates_high_specs_High_antt=('p.left < 5', 'p.left < low.unused'))))
 
     def test_an_operator(self):
-        self.assertIn('_⊕_', self.names(self.repository(crates_low_specs_Low_antt=('deepest n = n', 'deepest n = n ⊕ n'))))
+        self.assertIn('◌⊕◌', self.names(self.repository(crates_low_specs_Low_antt=('deepest n = n', 'deepest n = n ⊕ n'))))
+
+    def test_a_field_of_what_a_definition_makes(self):
+        self.assertIn('unused', self.names(self.repository(crates_high_specs_High_antt=('p.left < 5', '(low.unused).left < 5'))))
+
+    def test_a_second_clause(self):
+        self.assertIn('unused', self.names(self.repository(crates_capi_src_lib_rt=(
+            '    ensures { result ≡ promised }\n', '    ensures { result ≡ promised }\n    ensures other { result ≡ Rattle.low.specs.Low.unused }\n'))))
+
+    def test_a_field_of_a_name_that_nothing_explains(self):
+        self.refused('nothing explains lost', crates_high_specs_High_antt=('p.left < 5', 'lost.left < 5'))
 
     def test_a_premise_of_a_module(self):
         self.assertIn('unused', self.names(self.repository(
-            crates_history_specs_History_antt=('(e : a ≡ good)', '(e : a ≡ good) (z : Rattle·low.specs.Low.unused ≡ 0)'))))
+            crates_history_specs_History_antt=('(e : a ≡ good)', '(e : a ≡ good) (z : Rattle.low.specs.Low.unused ≡ 0)'))))
 
     def test_a_name_that_nothing_explains(self):
         self.refused('nothing explains lost', crates_low_specs_Low_antt=('deepest n = n', 'deepest n = lost n'))
 
     def test_a_name_of_a_contract_that_nothing_explains(self):
-        self.refused('nothing explains lost', crates_capi_src_lib_rt=('r ≡ promised', 'r ≡ lost'))
+        self.refused('nothing explains lost', crates_capi_src_lib_rt=('result ≡ promised', 'result ≡ lost'))
 
     def test_an_import_that_is_not_there(self):
         self.refused('has no lost', crates_high_specs_High_antt=('{helped, either', '{helped, lost as either'))
 
     def test_a_field_that_no_record_has(self):
-        self.refused('no record has a field middle', crates_high_specs_High_antt=('p .left < 5', 'p .middle < 5'))
+        self.refused('no record has a field middle', crates_high_specs_High_antt=('p.left < 5', 'p.middle < 5'))
 
     def test_a_case_that_an_enum_has_not(self):
-        self.refused('Way has no Three', crates_low_specs_Low_antt=('byWay Way.One = 0', 'byWay Way.Three = 0'))
+        self.refused('Way has no Three', crates_low_specs_Low_antt=('by_way Way.One = 0', 'by_way Way.Three = 0'))
 
     def test_an_exported_function_without_a_promise(self):
-        self.refused('has no `ensures`', crates_capi_src_lib_rt=('    ensures { λ r. ⌜ r ≡ promised ⌝ }\n', ''))
+        self.refused('has no `ensures`', crates_capi_src_lib_rt=('    ensures { result ≡ promised }\n', ''))
 
     def test_an_exported_function_without_a_call_by_value(self):
         self.refused('0 functions other by value', crates_capi_src_lib_rt=('pw_thing', 'pw_other'))
 
     def test_an_exported_function_that_cannot_be_read(self):
-        self.refused('2 functions are exported, 1 of them', crates_capi_src_lib_rt=('#[no_mangle]\n', '#[no_mangle]\n\n#[no_mangle]\n'))
+        self.refused('2 functions are exported, 1 of them', crates_capi_src_lib_rt=('#[unsafe(no_mangle)]\n', '#[unsafe(no_mangle)]\n\n#[unsafe(no_mangle)]\n'))
 
     def test_a_theorem_that_is_not_there(self):
         self.refused('lost is in none of', docs_THEOREMS_md=('`told`', '`told`, `lost`'))
+
+    def test_a_theorem_beside_the_proofs(self):
+        repository = self.repository(docs_THEOREMS_md=('| 3 | `told` | history/specs/History | |', '| 3 | `more` | low/proofs/More | |'))
+        path = repository.root / 'crates/low/proofs/More.antt'
+        path.parent.mkdir()
+        path.write_text('-- more\nuse Rattle.std.specs.Prelude.{◌≡◌, refl}\nuse Rattle.low.specs.Low.{unused}\n\npub more : unused ≡ 0\nmore = refl\n')
+        self.assertIn('unused', self.names(antt.Repository(repository.root)))
 
     def test_a_field_of_theorems_that_is_not_there(self):
         self.refused('has no field lost', docs_THEOREMS_md=('`fact`', '`lost`'))

@@ -4,7 +4,7 @@
 
 use blocks::BufferSource;
 use counts::ByteSum;
-use libc::STDOUT_FILENO;
+use std::io;
 
 // What is asked of a fresh size.
 const FRESH: [u64; 18] = [
@@ -38,38 +38,33 @@ const SMALL: [u64; 10] = [1, 1, 1, 1, 1, 1, 1, 1, 1, 1];
 const LARGE: [u64; 4] = [2000000, 1, 1048577, 1];
 
 // One ask, printed: what was asked, the answer, the size that is kept.
-fn ask(source: BufferSource, min: u64) -> BufferSource {
+fn ask(rt: &impl Print, source: BufferSource, min: u64) -> io::Result<BufferSource> {
     if source.current.0 == 0 {
-        return source;
+        return Ok(source);
     }
     let next = source.next_size(ByteSum(min));
-    io::write_all(STDOUT_FILENO, b"ask ");
-    io::print_decimal(STDOUT_FILENO, min);
-    io::write_all(STDOUT_FILENO, b" gives ");
-    io::print_decimal(STDOUT_FILENO, next.size.0);
-    io::write_all(STDOUT_FILENO, b", keeps ");
-    io::print_decimal(STDOUT_FILENO, next.source.current.0 as u64);
-    io::write_all(STDOUT_FILENO, b"\n");
-    next.source
+    let size = next.size.0;
+    let kept = next.source.current.0;
+    println!(rt; "ask {min} gives {size}, keeps {kept}")?;
+    Ok(next.source)
 }
 
 // Ask after ask: of one source, or each of a fresh one.
-fn chain(title: &[u8], asks: &[u64], anew: bool) {
-    io::write_all(STDOUT_FILENO, title);
+fn chain(rt: &impl Print, title: &str, asks: &[u64], anew: bool) -> io::Result<()> {
+    println!(rt; "{title}")?;
     let mut source = BufferSource::new();
-    let mut i: usize = 0;
-    while i < asks.len() {
+    for min in asks {
         if anew {
             source = BufferSource::new();
         }
-        source = ask(source, asks[i]);
-        i += 1;
+        source = ask(rt, source, *min)?;
     }
+    Ok(())
 }
 
-fn main() {
-    chain(b"fresh\n", &FRESH, true);
-    chain(b"ten rows of 1,000 bytes\n", &TEN_ROWS, false);
-    chain(b"small asks\n", &SMALL, false);
-    chain(b"large, then small\n", &LARGE, false);
+fn main(rt: HostRuntime) -> io::Result<()> {
+    chain(&rt, "fresh", &FRESH, true)?;
+    chain(&rt, "ten rows of 1,000 bytes", &TEN_ROWS, false)?;
+    chain(&rt, "small asks", &SMALL, false)?;
+    chain(&rt, "large, then small", &LARGE, false)
 }

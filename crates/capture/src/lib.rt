@@ -8,7 +8,8 @@ mod text;
 ghost use Rattle.std.specs.Prelude.{◌≡◌, length};
 
 pub use faults::{calls_refused, lends_too_much, never_set_up, other_columns, output_ends};
-use libc::STDIN_FILENO;
+use std::io;
+use std::io::Read;
 pub use text::{end_line, say, show, write};
 
 // How many bytes of each memory are lent.
@@ -105,47 +106,91 @@ pub fn a_drop() -> Fetched {
     bare(true, false, 6)
 }
 
+// How many bytes came to the front of a memory, and whether a read failed behind them.
+#[derive(Clone, Copy)]
+pub struct Came {
+    pub count: usize,
+    pub failed: bool,
+}
+
 // Call `number` of the capture on standard input, the first 1: its two runs in `bytes`, one behind the other. None at the end of the input,
-// and none where it is not a whole call, of those up to `last` or text, that this program has room for: that is told.
-pub fn fetch(number: u64, last: u32, bytes: &mut [u8]) -> Fetched {
+// and none where it is not a whole call, of those up to `last` or text, that this program has room for: that is told. An error is one of
+// standard error.
+pub fn fetch(
+    rt: &(impl Input + Eprint),
+    number: u64,
+    last: u32,
+    bytes: &mut [u8],
+) -> io::Result<Fetched> {
+    let mut input = rt.reader();
     let mut header = [0u8; 48];
-    let got = io::read_full(STDIN_FILENO, &mut header);
-    if got == 48 {
-        fetch_runs(number, last, &header, bytes)
+    let came = read_full(&mut input, &mut header);
+    if came.count == 48 {
+        fetch_runs(&mut input, rt, number, last, &header, bytes)
     } else {
-        bare(false, faults::ended(number, got), 99)
+        let told = faults::ended(rt, number, came)?;
+        Ok(bare(false, told, 99))
     }
 }
 
 // The runs behind a header.
-fn fetch_runs(number: u64, last: u32, header: &[u8], bytes: &mut [u8]) -> Fetched
+fn fetch_runs(
+    input: &mut impl Read,
+    rt: &impl Eprint,
+    number: u64,
+    last: u32,
+    header: &[u8],
+    bytes: &mut [u8],
+) -> io::Result<Fetched>
     requires { length header.now ≡ 48 }
 {
     let call = call_at(header);
     let first = words::get32(header, 36) as usize;
     let second = words::get32(header, 40) as usize;
-    if faults::of_no_kind(number, last, call.what) {
-        return the_end();
+    if faults::of_no_kind(rt, number, last, call.what)? {
+        return Ok(the_end());
     }
-    if faults::brings_too_much(number, first + second, bytes.len()) {
-        return the_end();
+    if faults::brings_too_much(rt, number, first + second, bytes.len())? {
+        return Ok(the_end());
     }
-    if faults::cut_short(number, first + second, read_front(bytes, first + second)) {
-        return the_end();
+    let got = read_front(input, bytes, first + second);
+    if faults::cut_short(rt, number, first + second, got)? {
+        return Ok(the_end());
     }
-    Fetched {
+    Ok(Fetched {
         more: true,
         told: false,
         call,
         first,
         second,
-    }
+    })
 }
 
 // Reads n bytes to the front of a memory, as many as there are; answers how many came.
-fn read_front(s: &mut [u8], n: usize) -> usize {
+fn read_front(input: &mut impl Read, s: &mut [u8], n: usize) -> usize {
     if n <= s.len() {
-        return io::read_full(STDIN_FILENO, &mut s[0..n]);
+        return read_full(input, &mut s[0..n]).count;
     }
     0
+}
+
+// Reads until a memory is full, the input ends or a read fails.
+fn read_full(input: &mut impl Read, s: &mut [u8]) -> Came {
+    let mut count: usize = 0;
+    while count < s.len() {
+        match input.read(&mut s[count..]) {
+            Ok(0) => break,
+            Ok(n) => count += n,
+            Err(_) => {
+                return Came {
+                    count,
+                    failed: true,
+                };
+            }
+        }
+    }
+    Came {
+        count,
+        failed: false,
+    }
 }

@@ -1,34 +1,32 @@
-// What programs that play a capture write with: text, numbers, and bytes that a screen may have.
+// What programs that play a capture write with: text, numbers, and bytes that a screen may have. An error is one of standard output.
 ghost use Rattle.std.specs.Prelude.{◌<◌, ◌≡◌};
 
-use libc::STDOUT_FILENO;
+use std::io;
 
 // Bytes written.
-pub fn write(text: &[u8]) {
-    io::write_all(STDOUT_FILENO, text);
+pub fn write(rt: &impl Print, text: &[u8]) -> io::Result<()> {
+    rt.write_all(text)
 }
 
 // Bytes, and a number behind them.
-pub fn say(text: &[u8], number: u32) {
-    io::write_all(STDOUT_FILENO, text);
-    io::print_decimal(STDOUT_FILENO, number as u64);
+pub fn say(rt: &impl Print, text: &[u8], number: u32) -> io::Result<()> {
+    rt.write_all(text)?;
+    print!(rt; "{number}")
 }
 
-// The end of a line; whether it could be written.
-pub fn end_line() -> bool {
-    io::write_all(STDOUT_FILENO, b"\n")
+// The end of a line.
+pub fn end_line(rt: &impl Print) -> io::Result<()> {
+    rt.write_all(b"\n")
 }
 
 // Bytes from outside, as a screen may have them: `?` for each control byte.
-pub fn show(text: &[u8]) {
+pub fn show(rt: &impl Print, text: &[u8]) -> io::Result<()> {
     let mut before: u8 = 0;
-    let mut i: usize = 0;
-    while i < text.len() {
-        before = shown(before, text[i]);
-        let one = [before];
-        io::write_all(STDOUT_FILENO, &one);
-        i += 1;
+    for b in text {
+        before = shown(before, *b);
+        rt.write_all(&[before])?;
     }
+    Ok(())
 }
 
 // A byte as it is shown behind another that is shown. A control byte is one below 32, 127, and one from 128 to 159 that stands by itself or behind 194,

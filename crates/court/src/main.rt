@@ -3,19 +3,26 @@
 #![tactic(auto)]
 
 use player::Job;
+use std::io;
 
-fn main() {
-    let mut slots = io::large_buffer();
-    let mut pool = io::large_buffer();
-    let mut books = io::large_buffer();
-    let mut bytes = io::large_buffer();
-    let mut scratch = io::large_buffer();
+// Room for the slots, the pool, the books, a buffer, or the bytes of a call.
+fn new_memory() -> [u8; 65536] {
+    [0; 65536]
+}
+
+fn main(rt: HostRuntime) -> io::Result<()> {
+    let mut slots = new_memory();
+    let mut pool = new_memory();
+    let mut books = new_memory();
+    let mut bytes = new_memory();
+    let mut scratch = new_memory();
     player::play(
+        &rt,
         Job::Table,
         &mut slots,
         &mut pool,
         &mut books,
         &mut bytes,
         &mut scratch,
-    );
+    )
 }

@@ -3,6 +3,7 @@
 #![tactic(auto)]
 
 use player::Job;
+use std::io;
 
 // Room for the slots, the pool, a buffer, and the bytes of a call.
 fn new_memory() -> [u8; 262144] {
@@ -14,18 +15,19 @@ fn new_books() -> [u8; 1400000] {
     [0; 1400000]
 }
 
-fn main() {
+fn main(rt: HostRuntime) -> io::Result<()> {
     let mut slots = new_memory();
     let mut pool = new_memory();
     let mut books = new_books();
     let mut bytes = new_memory();
     let mut scratch = new_memory();
     player::play(
+        &rt,
         Job::Telling,
         &mut slots,
         &mut pool,
         &mut books,
         &mut bytes,
         &mut scratch,
-    );
+    )
 }

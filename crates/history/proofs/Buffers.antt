@@ -21,9 +21,9 @@ use Rattle.state.specs.Rows.{listed_at, buffer_at, front_slot}
 use Rattle.rules.specs.Ranges.{tested}
 use Rattle.rules.specs.Calls.{Wanted, set_up_call, view_answer, value_answer, is_row, read_row, buffer_number_call, buffer_call}
 use Rattle.invariant.specs.Holding.{reach, number_at, Between}
-use Rattle.invariant.specs.CountLaws.{number_live, number_used}
-use Rattle.invariant.specs.Rests.{reach_other, number-listed}
-use Rattle.invariant.specs.Calls.Tested.{between-tested}
+use Rattle.invariant.proofs.CountLaws.{number_live, number_used}
+use Rattle.invariant.proofs.Rests.{reach_other, number-listed}
+use Rattle.invariant.proofs.Calls.Tested.{between-tested}
 use Rattle.history.specs.Call.{Call}
 use Rattle.history.proofs.History.{did, all}
 use Rattle.history.proofs.RowReads.{is, front_in, front_other, valid, last-bytes}

@@ -13,13 +13,14 @@ use Rattle.rules.specs.Held.{Among, among_not, Holds, held, refused}
 use Rattle.rules.specs.CallLaws.{finish_steps, drop-empty, drop-front}
 use Rattle.rules.specs.RegisterLaws.{register_steps, let_go_steps}
 use Rattle.invariant.specs.Holding.{Between}
-use Rattle.invariant.specs.Calls.After.{After}
-use Rattle.invariant.specs.Calls.FinishAfter.{QueuesBuffered, finished-after}
-use Rattle.invariant.specs.Calls.PushAfter.{RowsBehind, refusals, pushed-after}
-use Rattle.invariant.specs.Calls.Tested.{between-tested}
-use Rattle.invariant.specs.Calls.MemoryAfter.{SameRows, same_self, let_go_same, register_same}
-use Rattle.invariant.specs.Calls.LimitAfter.{limit_same}
-use Rattle.invariant.specs.Calls.DropAfter.{drop-between, drop-batches, drop-rows, drop-bytes}
+use Rattle.invariant.proofs.Calls.After.{After}
+use Rattle.invariant.proofs.Calls.FinishAfter.{QueuesBuffered, finished-after}
+use Rattle.invariant.proofs.Calls.PushAfter.{RowsBehind, refusals, pushed-after}
+use Rattle.invariant.proofs.Calls.Tested.{between-tested}
+use Rattle.invariant.specs.Calls.MemoryAfter.{SameRows}
+use Rattle.invariant.proofs.Calls.MemoryAfter.{same_self, let_go_same, register_same}
+use Rattle.invariant.proofs.Calls.LimitAfter.{limit_same}
+use Rattle.invariant.proofs.Calls.DropAfter.{drop-between, drop-batches, drop-rows, drop-bytes}
 use Rattle.history.specs.Call.{Call, push, finish, drop, register, let_go, limit, read, if_done, front, step}
 use Rattle.history.specs.Law.{Law}
 

@@ -17,8 +17,8 @@ use Rattle.rules.specs.Calls.{Wanted, set_up_call, drop_call, buffered_count, ha
 use Rattle.rules.specs.CallLaws.{drop-empty, drop-front}
 use Rattle.invariant.specs.Holding.{Between}
 use Rattle.invariant.specs.RowLaws.{upTo-first, length-rows, length-batches}
-use Rattle.invariant.specs.Calls.After.{rows_are}
-use Rattle.invariant.specs.Calls.Tested.{between-tested}
+use Rattle.invariant.proofs.Calls.After.{rows_are}
+use Rattle.invariant.proofs.Calls.Tested.{between-tested}
 use Rattle.history.specs.Call.{Call, drop, front, step}
 use Rattle.history.specs.Law.{content}
 use Rattle.history.proofs.History.{did, in_order_lem}

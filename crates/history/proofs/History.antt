@@ -11,9 +11,9 @@ use Rattle.rules.specs.CallLaws.{set_up_zero, set_up_done, push_stays, finish_st
 use Rattle.rules.specs.RegisterLaws.{register_stays, let_go_stays}
 use Rattle.invariant.specs.Holding.{Between}
 use Rattle.invariant.specs.RowLaws.{length-rows}
-use Rattle.invariant.specs.Calls.After.{rows_are}
-use Rattle.invariant.specs.Calls.Tested.{between-tested}
-use Rattle.invariant.specs.Calls.SetUpAfter.{Starts, set_up_begins}
+use Rattle.invariant.proofs.Calls.After.{rows_are}
+use Rattle.invariant.proofs.Calls.Tested.{between-tested}
+use Rattle.invariant.proofs.Calls.SetUpAfter.{Starts, set_up_begins}
 use Rattle.history.specs.Call.{Call, push, finish, drop, register, let_go, limit, read, Did, step, run}
 use Rattle.history.specs.Law.{Law, content, law_rows, run_law}
 use Rattle.history.proofs.CallLaws.{call_law}

@@ -19,13 +19,15 @@ use Rattle.rules.specs.Calls.{or_old, push_call, finish_call, drop_call, registe
 use Rattle.rules.specs.CallLaws.{finish_steps, drop-tested, drop-empty, drop-front, dropped_stays}
 use Rattle.rules.specs.RegisterLaws.{register_steps, let_go_tested, let_go_steps, let_go_stays}
 use Rattle.invariant.specs.Holding.{Between, PoolStays}
-use Rattle.invariant.specs.PoolLaws.{relisted_is, pool_refl}
-use Rattle.invariant.specs.Calls.PushAfter.{RowsBehind, refusals, pushed-after}
-use Rattle.invariant.specs.Calls.FinishAfter.{QueuesBuffered, finished-after}
-use Rattle.invariant.specs.Calls.Tested.{between-tested}
-use Rattle.invariant.specs.Calls.MemoryAfter.{NewlyHeld, let_go_other, register_pool, register_new}
-use Rattle.invariant.specs.Calls.DropAfter.{drop-between, drop_held}
-use Rattle.invariant.specs.Calls.PoolAfter.{KeepsHeld, held_refl, held_trans, held_below, held_some, held_there, stays_held, relisted_held, finished-pool, dropped-pool}
+use Rattle.invariant.proofs.PoolLaws.{relisted_is, pool_refl}
+use Rattle.invariant.proofs.Calls.PushAfter.{RowsBehind, refusals, pushed-after}
+use Rattle.invariant.proofs.Calls.FinishAfter.{QueuesBuffered, finished-after}
+use Rattle.invariant.proofs.Calls.Tested.{between-tested}
+use Rattle.invariant.specs.Calls.MemoryAfter.{NewlyHeld}
+use Rattle.invariant.proofs.Calls.MemoryAfter.{let_go_other, register_pool, register_new}
+use Rattle.invariant.proofs.Calls.DropAfter.{drop-between, drop_held}
+use Rattle.invariant.specs.Calls.PoolAfter.{KeepsHeld}
+use Rattle.invariant.proofs.Calls.PoolAfter.{held_refl, held_trans, held_below, held_some, held_there, stays_held, relisted_held, finished-pool, dropped-pool}
 use Rattle.history.specs.Call.{Call, push, finish, drop, register, let_go, limit, read, OfBytes, step, run}
 use Rattle.history.specs.Law.{run_law}
 use Rattle.history.proofs.CallLaws.{call_law}

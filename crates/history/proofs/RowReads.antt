@@ -25,9 +25,9 @@ use Rattle.state.specs.Rows.{null, value, listed_at, buffer_at, cell_of, slot_ce
 use Rattle.rules.specs.CallLaws.{set_up_zero, set_up_done}
 use Rattle.rules.specs.Calls.{Answered, Wanted, set_up_call, view_answer, value_answer, is_row, read_row, read_as}
 use Rattle.invariant.specs.Holding.{reach, Between}
-use Rattle.invariant.specs.Rests.{reach_other, buffer_number_lem, number-listed}
-use Rattle.invariant.specs.Steps.MoveLaws.{rows_other}
-use Rattle.invariant.specs.Calls.Tested.{between-tested}
+use Rattle.invariant.proofs.Rests.{reach_other, buffer_number_lem, number-listed}
+use Rattle.invariant.proofs.Steps.MoveLaws.{rows_other}
+use Rattle.invariant.proofs.Calls.Tested.{between-tested}
 use Rattle.history.specs.Call.{Call}
 use Rattle.history.proofs.History.{did, all}
 use Rattle.history.specs.Cells.{slot_cell_at}

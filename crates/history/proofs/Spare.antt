@@ -7,7 +7,7 @@ use Rattle.state.specs.Layout.{bitmap_place, rows_in, queued_slot}
 use Rattle.state.proofs.SlotLaws.{queued_in, queued_place}
 use Rattle.rules.specs.Calls.{Wanted, set_up_call}
 use Rattle.invariant.specs.Holding.{IsSpare, Between}
-use Rattle.invariant.specs.Steps.MoveLaws.{rows-filling, rows_other}
+use Rattle.invariant.proofs.Steps.MoveLaws.{rows-filling, rows_other}
 use Rattle.history.specs.Call.{Call}
 use Rattle.history.proofs.History.{did, all}
 

@@ -12,9 +12,9 @@ use Rattle.rules.specs.CallLaws.{old_among, finish_steps, drop-number}
 use Rattle.rules.specs.RegisterLaws.{LetGoCase, let_go_case, register_steps}
 use Rattle.rules.specs.PartLaws.{chosen-among}
 use Rattle.invariant.specs.Holding.{Between}
-use Rattle.invariant.specs.Calls.FinishAfter.{finished-after}
-use Rattle.invariant.specs.Calls.PushAfter.{refusals, pushed-after}
-use Rattle.invariant.specs.Calls.Tested.{between-tested}
+use Rattle.invariant.proofs.Calls.FinishAfter.{finished-after}
+use Rattle.invariant.proofs.Calls.PushAfter.{refusals, pushed-after}
+use Rattle.invariant.proofs.Calls.Tested.{between-tested}
 use Rattle.history.specs.Call.{OfBytes}
 
 -- what registering answers behind the tests: a number, or 13, 11, 12

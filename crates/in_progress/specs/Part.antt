@@ -49,7 +49,7 @@ copied_by w b p y = by_way (bits_copied w b w.state.place (span p.column p.at p.
 
 -- ---- what is asked
 
--- rows of the batch, to be copied into column p .column: r is its record, p.place its place in the slot being filled
+-- rows of the batch, to be copied into column p.column: r is its record, p.place its place in the slot being filled
 pub record Part (w : World) (b : Batch) (r : ColumnRecord) (p : Rows) : Type 0 where
   pub run : Run w
   pub reads : Readable w b

@@ -1,12 +1,6 @@
 -- What holds between any two calls of a history, and that every step keeps it and what each row shows.
 pub mod Holding
-pub mod BeginLaws
 pub mod ByteLaws
-pub mod Rests
-pub mod CountLaws
-pub mod AloneLaws
-pub mod PoolLaws
-pub mod SlotLaws
 pub mod PutLaws
 pub mod RowLaws
 pub mod Steps

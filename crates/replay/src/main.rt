@@ -3,24 +3,31 @@
 #![tactic(auto)]
 
 use player::Job;
+use std::io;
+
+// Room for the slots, the books, or the bytes of a call.
+fn new_memory() -> [u8; 65536] {
+    [0; 65536]
+}
 
 // Room for the pool, and for a buffer.
 fn new_pool() -> [u8; 300000] {
     [0; 300000]
 }
 
-fn main() {
-    let mut slots = io::large_buffer();
+fn main(rt: HostRuntime) -> io::Result<()> {
+    let mut slots = new_memory();
     let mut pool = new_pool();
-    let mut books = io::large_buffer();
-    let mut bytes = io::large_buffer();
+    let mut books = new_memory();
+    let mut bytes = new_memory();
     let mut scratch = new_pool();
     player::play(
+        &rt,
         Job::Telling,
         &mut slots,
         &mut pool,
         &mut books,
         &mut bytes,
         &mut scratch,
-    );
+    )
 }

@@ -2,6 +2,14 @@
 // is out on each side, and who comes back next.
 #![tactic(auto)]
 
+use std::io;
+use std::io::IsTerminal;
+
+// Room for the slots, the pool, the books, the bytes of a call, or the answers of a batch's rows.
+fn new_memory() -> [u8; 65536] {
+    [0; 65536]
+}
+
 // Room for the strip.
 fn strip_memory() -> [u8; 972] {
     [0; 972]
@@ -12,15 +20,17 @@ fn text_memory() -> [u8; 400000] {
     [0; 400000]
 }
 
-fn main() {
-    let mut slots = io::large_buffer();
-    let mut pool = io::large_buffer();
-    let mut books = io::large_buffer();
-    let mut bytes = io::large_buffer();
+fn main(rt: HostRuntime) -> io::Result<()> {
+    let mut slots = new_memory();
+    let mut pool = new_memory();
+    let mut books = new_memory();
+    let mut bytes = new_memory();
     let mut strip = strip_memory();
-    let mut numbers = io::large_buffer();
+    let mut numbers = new_memory();
     let mut text = text_memory();
     strip_player::play(
+        &rt,
+        rt.stdout().is_terminal(),
         &mut slots,
         &mut pool,
         &mut books,
@@ -28,5 +38,5 @@ fn main() {
         &mut strip,
         &mut numbers,
         &mut text,
-    );
+    )
 }

@@ -1,161 +1,173 @@
 // Prints a call of a capture and what it answered, a line a call; and the rows of a batch in hexadecimal. For the programs `edges` and
-// `replay`. It is handed answers: of the memories it sees the books, which it shows, and the bytes that a capture asks to see.
+// `replay`. It is handed answers: of the memories it sees the books, which it shows, and the bytes that a capture asks to see. An error is
+// one of standard output.
 #![tactic(auto)]
 
 use answers::{Answer, Cell, Counts, word_at};
 use capture::{Call, end_line, say, show, write};
-use libc::STDOUT_FILENO;
+use std::io;
 
-// The line of a call that was made, with the text or the bytes that it brought; whether it could be written. Calls that read print by the
-// functions below.
-pub fn line(x: Call, second: &[u8], answer: Answer, counts: Counts) -> bool {
+// The line of a call that was made, with the text or the bytes that it brought. Calls that read print by the functions below.
+pub fn line(
+    rt: &impl Print,
+    x: Call,
+    second: &[u8],
+    answer: Answer,
+    counts: Counts,
+) -> io::Result<()> {
     let what = x.what;
     match what {
         1..=7 => {
-            name(x, second.len());
-            tell_answer(answer.number);
-            tell_rest(what, answer, counts);
-            end_line()
+            name(rt, x, second.len())?;
+            tell_answer(rt, answer.number)?;
+            tell_rest(rt, what, answer, counts)?;
+            end_line(rt)
         }
-        8 | 9 | 11..=14 => true,
-        10 => tell_flags(counts),
-        _ => note(second),
+        8 | 9 | 11..=14 => Ok(()),
+        10 => tell_flags(rt, counts),
+        _ => note(rt, second),
     }
 }
 
 // A line of text.
-fn note(text: &[u8]) -> bool {
-    show(text);
-    end_line()
+fn note(rt: &impl Print, text: &[u8]) -> io::Result<()> {
+    show(rt, text)?;
+    end_line(rt)
 }
 
 // A call's name and numbers.
-fn name(x: Call, size: usize) {
+fn name(rt: &impl Print, x: Call, size: usize) -> io::Result<()> {
     let what = x.what;
     match what {
-        1 => name_set_up(x),
-        2 => name_register(size, x.a),
-        3 => say(b"let go ", x.a),
-        4 => say(b"push ", x.a),
-        5 => write(b"finish"),
-        6 => write(b"drop"),
-        _ => name_limit(x.a, x.b),
+        1 => name_set_up(rt, x),
+        2 => name_register(rt, size, x.a),
+        3 => say(rt, b"let go ", x.a),
+        4 => say(rt, b"push ", x.a),
+        5 => write(rt, b"finish"),
+        6 => write(rt, b"drop"),
+        _ => name_limit(rt, x.a, x.b),
     }
 }
 
 // Set-up's name and numbers.
-fn name_set_up(x: Call) {
-    say(b"set-up T ", x.a);
-    say(b" R ", x.b);
-    say(b" Q ", x.c);
-    say(b" B ", x.d);
-    say(b" N ", x.e);
+fn name_set_up(rt: &impl Print, x: Call) -> io::Result<()> {
+    say(rt, b"set-up T ", x.a)?;
+    say(rt, b" R ", x.b)?;
+    say(rt, b" Q ", x.c)?;
+    say(rt, b" B ", x.d)?;
+    say(rt, b" N ", x.e)
 }
 
 // How many bytes are registered, with which capacity.
-fn name_register(size: usize, capacity: u32) {
-    write(b"register ");
-    io::print_decimal(STDOUT_FILENO, size as u64);
-    say(b" of ", capacity);
+fn name_register(rt: &impl Print, size: usize, capacity: u32) -> io::Result<()> {
+    print!(rt; "register {size} of {capacity}")
 }
 
 // Two numbers, each behind its text.
-fn name_two(text: &[u8], a: u32, between: &[u8], b: u32) {
-    say(text, a);
-    say(between, b);
+fn name_two(rt: &impl Print, text: &[u8], a: u32, between: &[u8], b: u32) -> io::Result<()> {
+    say(rt, text, a)?;
+    say(rt, between, b)
 }
 
 // The limit asked for, or none.
-fn name_limit(set: u32, rows: u32) {
+fn name_limit(rt: &impl Print, set: u32, rows: u32) -> io::Result<()> {
     if set == 0 {
-        write(b"limit none");
+        write(rt, b"limit none")
     } else {
-        say(b"limit ", rows);
+        say(rt, b"limit ", rows)
     }
 }
 
 // Whether the call was done, or the number of the refusal.
-pub fn tell_answer(refusal: u32) {
+pub fn tell_answer(rt: &impl Print, refusal: u32) -> io::Result<()> {
     if refusal == 0 {
-        write(b": done");
+        write(rt, b": done")
     } else {
-        say(b": refused ", refusal);
+        say(rt, b": refused ", refusal)
     }
 }
 
 // What stands behind an answer: a value, the limit, the rows buffered and the batches queued.
-fn tell_rest(what: u32, answer: Answer, counts: Counts) {
+fn tell_rest(rt: &impl Print, what: u32, answer: Answer, counts: Counts) -> io::Result<()> {
     match what {
-        2 => tell_number(answer),
-        3 => {}
+        2 => tell_number(rt, answer),
+        3 => Ok(()),
         6 => {
-            say(b", rows ", answer.value);
-            tell_counts(counts);
+            say(rt, b", rows ", answer.value)?;
+            tell_counts(rt, counts)
         }
         7 => {
             let limit = counts.limit;
-            name_two(b", set ", limit.number, b" to ", limit.value);
+            name_two(rt, b", set ", limit.number, b" to ", limit.value)
         }
-        _ => tell_counts(counts),
+        _ => tell_counts(rt, counts),
     }
 }
 
 // The number of the buffer that was registered.
-fn tell_number(answer: Answer) {
+fn tell_number(rt: &impl Print, answer: Answer) -> io::Result<()> {
     if answer.number == 0 {
-        say(b", number ", answer.value);
+        say(rt, b", number ", answer.value)
+    } else {
+        Ok(())
     }
 }
 
 // The rows buffered and the batches queued.
-pub fn tell_counts(counts: Counts) {
-    say(b", buffered ", counts.buffered);
-    say(b", queued ", counts.queued);
+pub fn tell_counts(rt: &impl Print, counts: Counts) -> io::Result<()> {
+    say(rt, b", buffered ", counts.buffered)?;
+    say(rt, b", queued ", counts.queued)
 }
 
 // The counts by themselves: rows buffered, has_completed_batch and is_empty.
-fn tell_flags(counts: Counts) -> bool {
-    say(b"counts: buffered ", counts.buffered);
-    say(b", completed ", counts.completed);
-    say(b", empty ", counts.empty);
-    end_line()
+fn tell_flags(rt: &impl Print, counts: Counts) -> io::Result<()> {
+    say(rt, b"counts: buffered ", counts.buffered)?;
+    say(rt, b", completed ", counts.completed)?;
+    say(rt, b", empty ", counts.empty)?;
+    end_line(rt)
 }
 
 // A row's answer, a line: null, or where it is.
-pub fn place(column: u32, row: u32, cell: Cell) -> bool {
-    name_two(b"row ", row, b" of column ", column);
-    tell_answer(cell.refusal);
+pub fn place(rt: &impl Print, column: u32, row: u32, cell: Cell) -> io::Result<()> {
+    name_two(rt, b"row ", row, b" of column ", column)?;
+    tell_answer(rt, cell.refusal)?;
     if cell.refusal == 0 {
-        tell_place(cell);
+        tell_place(rt, cell)?;
     }
-    end_line()
+    end_line(rt)
 }
 
 // In its row, or in a buffer.
-fn tell_place(cell: Cell) {
+fn tell_place(rt: &impl Print, cell: Cell) -> io::Result<()> {
     if cell.kind == 0 {
-        write(b", null");
+        write(rt, b", null")
     } else if cell.kind == 1 {
-        name_two(b", in its row at ", cell.place, b", length ", cell.length);
+        name_two(
+            rt,
+            b", in its row at ",
+            cell.place,
+            b", length ",
+            cell.length,
+        )
     } else {
-        name_two(b", in buffer ", cell.place, b" at ", cell.offset);
-        say(b", length ", cell.length);
+        name_two(rt, b", in buffer ", cell.place, b" at ", cell.offset)?;
+        say(rt, b", length ", cell.length)
     }
 }
 
 // A buffer's bytes, as many as were read of them, and the number beside them.
-pub fn buffer(number: u32, answer: Answer, read: &[u8]) -> bool {
-    name_two(b"buffer ", number, b": bytes ", answer.value);
-    tell_answer(answer.number);
-    quote(front(read, answer.value as usize))
+pub fn buffer(rt: &impl Print, number: u32, answer: Answer, read: &[u8]) -> io::Result<()> {
+    name_two(rt, b"buffer ", number, b": bytes ", answer.value)?;
+    tell_answer(rt, answer.number)?;
+    quote(rt, front(read, answer.value as usize))
 }
 
 // Bytes between quotes, and the line's end.
-fn quote(bytes: &[u8]) -> bool {
-    write(b", '");
-    show(bytes);
-    write(b"'");
-    end_line()
+fn quote(rt: &impl Print, bytes: &[u8]) -> io::Result<()> {
+    write(rt, b", '")?;
+    show(rt, bytes)?;
+    write(rt, b"'")?;
+    end_line(rt)
 }
 
 // The first n bytes, or all where there are fewer.
@@ -167,77 +179,73 @@ fn front(s: &[u8], n: usize) -> &[u8] {
 }
 
 // A cell of a row: two spaces before the first and one before each other, a line's end behind the last.
-pub fn cell(column: u32, last: u32, kind: u32, bytes: &[u8]) {
-    indent(column);
-    tell_value(kind, bytes);
-    if column == last {
-        write(b"\n");
-    }
+pub fn cell(rt: &impl Print, column: u32, last: u32, kind: u32, bytes: &[u8]) -> io::Result<()> {
+    indent(rt, column)?;
+    tell_value(rt, kind, bytes)?;
+    if column == last { end_line(rt) } else { Ok(()) }
 }
 
 // What stands before a cell.
-fn indent(column: u32) {
+fn indent(rt: &impl Print, column: u32) -> io::Result<()> {
     if column == 0 {
-        write(b"  ");
+        write(rt, b"  ")
     } else {
-        write(b" ");
+        write(rt, b" ")
     }
 }
 
 // `-` for null, `.` for a value of no bytes, else two digits a byte.
-fn tell_value(kind: u32, bytes: &[u8]) {
+fn tell_value(rt: &impl Print, kind: u32, bytes: &[u8]) -> io::Result<()> {
     if kind == 0 {
-        write(b"-");
+        write(rt, b"-")
     } else if bytes.len() == 0 {
-        write(b".");
+        write(rt, b".")
     } else {
-        tell_bytes(bytes);
+        tell_bytes(rt, bytes)
     }
 }
 
 // Two digits a byte.
-pub fn tell_bytes(s: &[u8]) {
-    let mut i: usize = 0;
-    while i < s.len() {
-        tell_byte(s[i]);
-        i += 1;
+pub fn tell_bytes(rt: &impl Print, s: &[u8]) -> io::Result<()> {
+    for b in s {
+        tell_byte(rt, *b)?;
     }
+    Ok(())
 }
 
 // A byte in hexadecimal.
-fn tell_byte(b: u8) {
-    io::print_hex(STDOUT_FILENO, b as u64, 2);
+fn tell_byte(rt: &impl Print, b: u8) -> io::Result<()> {
+    print!(rt; "{b:02x}")
 }
 
 // Bytes of a memory as they stand, a line: 0 the state, 1 the slots, 2 the books, else the pool.
-pub fn show_bytes(memory: u32, at: u32, bytes: &[u8]) -> bool {
-    name_memory(memory);
-    say(b" at ", at);
-    write(b": ");
-    tell_value(1, bytes);
-    end_line()
+pub fn show_bytes(rt: &impl Print, memory: u32, at: u32, bytes: &[u8]) -> io::Result<()> {
+    name_memory(rt, memory)?;
+    say(rt, b" at ", at)?;
+    write(rt, b": ")?;
+    tell_value(rt, 1, bytes)?;
+    end_line(rt)
 }
 
 // A memory's name.
-fn name_memory(memory: u32) {
+fn name_memory(rt: &impl Print, memory: u32) -> io::Result<()> {
     match memory {
-        0 => write(b"state"),
-        1 => write(b"slots"),
-        2 => write(b"books"),
-        _ => write(b"pool"),
+        0 => write(rt, b"state"),
+        1 => write(rt, b"slots"),
+        2 => write(rt, b"books"),
+        _ => write(rt, b"pool"),
     }
 }
 
 // The entries of the books that are in use, as far as they are there.
-pub fn show_books(books: &[u8]) -> bool {
+pub fn show_books(rt: &impl Print, books: &[u8]) -> io::Result<()> {
     if books.len() < 4 {
-        return true;
+        return Ok(());
     }
     let used = word_at(books, 0);
-    say(b"books: in use ", used);
-    let went = end_line();
-    show_entries(books, least(used, (books.len() - 4) / 20));
-    went
+    say(rt, b"books: in use ", used)?;
+    end_line(rt)?;
+    show_entries(rt, books, least(used, (books.len() - 4) / 20))
 }
 
 // The smaller of two numbers of entries.
@@ -250,27 +258,26 @@ fn least(used: u32, room: usize) -> u32 {
 }
 
 // The first n entries.
-fn show_entries(books: &[u8], n: u32) {
-    let mut i: u32 = 0;
-    while i < n {
-        show_entry(books, i);
-        i += 1;
+fn show_entries(rt: &impl Print, books: &[u8], n: u32) -> io::Result<()> {
+    for i in 0..n {
+        show_entry(rt, books, i)?;
     }
+    Ok(())
 }
 
 // Entry i: its five words.
-fn show_entry(books: &[u8], i: u32) {
+fn show_entry(rt: &impl Print, books: &[u8], i: u32) -> io::Result<()> {
     let at = 4 + 20 * (i as usize);
-    say(b"  ", i);
-    tell_word(b": start ", books, at);
-    tell_word(b", capacity ", books, at + 4);
-    tell_word(b", length ", books, at + 8);
-    tell_word(b", hold ", books, at + 12);
-    tell_word(b", listings ", books, at + 16);
-    write(b"\n");
+    say(rt, b"  ", i)?;
+    tell_word(rt, b": start ", books, at)?;
+    tell_word(rt, b", capacity ", books, at + 4)?;
+    tell_word(rt, b", length ", books, at + 8)?;
+    tell_word(rt, b", hold ", books, at + 12)?;
+    tell_word(rt, b", listings ", books, at + 16)?;
+    end_line(rt)
 }
 
 // A word of the books behind its text.
-fn tell_word(text: &[u8], books: &[u8], at: usize) {
-    say(text, word_at(books, at));
+fn tell_word(rt: &impl Print, text: &[u8], books: &[u8], at: usize) -> io::Result<()> {
+    say(rt, text, word_at(books, at))
 }

@@ -5,6 +5,7 @@ ghost use Rattle.std.specs.Prelude.{◌<◌};
 
 use answers::part;
 use capture::{Fetched, Lent};
+use std::io;
 
 // Whether there is more to play, and where there is not whether that was told; the number of the capture's next call; whether a program's own drop
 // was just refused; how many bytes of each memory are lent; whether a set-up was done, and how many calls were refused.
@@ -58,16 +59,17 @@ pub fn over(f: Fetched) -> Went {
     }
 }
 
-// A call was made and its line written; where that could not be it was the last.
-pub fn made(written: bool, answer: u64) -> Went {
-    if !written {
-        capture::output_ends();
+// A call was made and its line written; where that could not be it was the last, and that is told. An error is one of standard error.
+pub fn made(rt: &impl Eprint, written: io::Result<()>, answer: u64) -> io::Result<Went> {
+    let on = written.is_ok();
+    if !on {
+        capture::output_ends(rt)?;
     }
-    Went {
-        on: written,
-        told: !written,
+    Ok(Went {
+        on,
+        told: !on,
         refused: 4294967296 <= answer,
-    }
+    })
 }
 
 // The turn behind call f: `ours` where it was a program's own drop, else it was the capture's next call.
@@ -83,15 +85,17 @@ pub fn after(turn: Turn, ours: bool, f: Fetched, lent: Lent, went: Went) -> Turn
     }
 }
 
-// What is told when the capture of a match is over: that nothing was set up, or that calls were refused.
-pub fn end_of_match(turn: Turn) {
+// What is told when the capture of a match is over: that nothing was set up, or that calls were refused. An error is one of
+// standard error.
+pub fn end_of_match(rt: &impl Eprint, turn: Turn) -> io::Result<()> {
     if turn.told {
-        return;
-    }
-    if !turn.begun {
-        capture::never_set_up();
+        Ok(())
+    } else if !turn.begun {
+        capture::never_set_up(rt)
     } else if 0 < turn.refused {
-        capture::calls_refused(turn.refused);
+        capture::calls_refused(rt, turn.refused)
+    } else {
+        Ok(())
     }
 }
 
@@ -105,50 +109,65 @@ fn next(number: u64, counts: bool) -> u64 {
     number
 }
 
-// Whether there is room for the memories that a call lends; where there is not, that is told.
-pub fn has_room(number: u64, room: Lent, f: Fetched) -> bool {
+// Whether there is room for the memories that a call lends; where there is not, that is told. An error is one of standard error.
+pub fn has_room(rt: &impl Eprint, number: u64, room: Lent, f: Fetched) -> io::Result<bool> {
     let lent = capture::lent_after(none_lent(), f);
-    if capture::lends_too_much(number, b"slots", lent.slots, room.slots) {
-        return false;
+    if capture::lends_too_much(rt, number, "slots", lent.slots, room.slots)? {
+        return Ok(false);
     }
-    if capture::lends_too_much(number, b"the pool", lent.pool, room.pool) {
-        return false;
+    if capture::lends_too_much(rt, number, "the pool", lent.pool, room.pool)? {
+        return Ok(false);
     }
-    !capture::lends_too_much(number, b"books", lent.books, room.books)
+    let too_much = capture::lends_too_much(rt, number, "books", lent.books, room.books)?;
+    Ok(!too_much)
 }
 
-// The next call to make: `ours`, a program's own drop of a batch, or the next of the capture, as the program hears it.
-pub fn next_call(of_match: bool, ours: bool, number: u64, room: Lent, bytes: &mut [u8]) -> Fetched {
+// The next call to make: `ours`, a program's own drop of a batch, or the next of the capture, as the program hears it. An
+// error is one of standard error.
+pub fn next_call(
+    rt: &(impl Input + Eprint),
+    of_match: bool,
+    ours: bool,
+    number: u64,
+    room: Lent,
+    bytes: &mut [u8],
+) -> io::Result<Fetched> {
     if ours {
-        return capture::a_drop();
+        return Ok(capture::a_drop());
     }
-    let f = capture::fetch(number, 14, bytes);
-    if has_room(number, room, f) {
-        heard(of_match, number, f, part(bytes, 0, f.first))
+    let f = capture::fetch(rt, number, 14, bytes)?;
+    if has_room(rt, number, room, f)? {
+        heard(rt, of_match, number, f, part(bytes, 0, f.first))
     } else {
-        capture::the_end()
+        Ok(capture::the_end())
     }
 }
 
 // A call as a program hears it. That of a match hears set-up with a match's columns, changes of a batch and loans of memory; others pass, as
 // text would.
-fn heard(of_match: bool, number: u64, f: Fetched, first: &[u8]) -> Fetched {
+fn heard(
+    rt: &impl Eprint,
+    of_match: bool,
+    number: u64,
+    f: Fetched,
+    first: &[u8],
+) -> io::Result<Fetched> {
     if of_match {
         if f.call.what == 1 {
-            return set_up_of_match(number, f, first);
+            return set_up_of_match(rt, number, f, first);
         }
-        return no_test(f);
+        return Ok(no_test(f));
     }
-    f
+    Ok(f)
 }
 
 // A set-up, where it has a match's columns; else none, and that is told.
-fn set_up_of_match(number: u64, f: Fetched, kinds: &[u8]) -> Fetched {
+fn set_up_of_match(rt: &impl Eprint, number: u64, f: Fetched, kinds: &[u8]) -> io::Result<Fetched> {
     if is_match(kinds) {
-        f
+        Ok(f)
     } else {
-        capture::other_columns(number);
-        capture::the_end()
+        capture::other_columns(rt, number)?;
+        Ok(capture::the_end())
     }
 }
 

@@ -4,8 +4,8 @@ use mathlib.Core.Path.{◌≡◌}
 use Rattle.strip_player.proofs.play.Given as goal
 
 abbrev pub invariant-loop-left : goal.invariant-loop-left
-invariant-loop-left l =
+invariant-loop-left _ l =
     (length l.state ≡ 304) × (length l.slots ≡ length l.initial.slots) × (length l.pool ≡ length l.initial.pool) × (length l.books ≡ length l.initial.books) × (length l.bytes ≡ length l.initial.bytes) × (length l.strip ≡ length l.initial.strip) × (length l.numbers ≡ length l.initial.numbers) × (length l.text ≡ length l.initial.text)
 
 abbrev pub decreases-loop-left : goal.decreases-loop-left
-decreases-loop-left l = l.left
+decreases-loop-left _ l = l.left
