@@ -7,7 +7,7 @@ use Rattle.state.specs.World.{world}
 use Rattle.rules.specs.Push.{finished}
 use Rattle.rules.specs.Ranges.{tested}
 use Rattle.rules.specs.Calls.{finish_call}
-use Rattle.rules.specs.CallLaws.{finish_tested, finish_steps}
+use Rattle.rules.proofs.CallLaws.{finish_tested, finish_steps}
 use Rattle.finishing.specs.Finish.{answered, Finishes}
 
 module _ (s : BatchCoalescer) (slots pool books : List ℕ) {n : ℕ} (e : n ≡ tested (world s slots pool books)) where

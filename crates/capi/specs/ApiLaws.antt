@@ -18,8 +18,8 @@ use Rattle.rules.specs.Batch.{Batch}
 use Rattle.rules.specs.Ranges.{fits_set_up, tested}
 use Rattle.rules.specs.Steps.{each, counting, with_limit}
 use Rattle.rules.specs.Calls.{Answered, push_call, finish_call, list_dropped, uncounted, dropped, drop_call, register_call, let_go_call, read_row, row_refusal, buffer_number_call, buffer_call, limit_of, buffered_count, has_completed, is_empty}
-use Rattle.rules.specs.CallLaws.{drop-tested, drop-empty, drop-front}
-use Rattle.rules.specs.RegisterLaws.{register_tested, register_steps, let_go_tested, let_go_steps}
+use Rattle.rules.proofs.CallLaws.{drop-tested, drop-empty, drop-front}
+use Rattle.rules.proofs.RegisterLaws.{register_tested, register_steps, let_go_tested, let_go_steps}
 use Rattle.rules.specs.declared.Step.{Step}
 use Rattle.completed.specs.declared.Dropped.{Dropped}
 use Rattle.completed.specs.Drop.{Drops}

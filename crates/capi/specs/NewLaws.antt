@@ -13,7 +13,7 @@ use Rattle.words.specs.Word.{word32}
 use Rattle.state.specs.World.{world}
 use Rattle.rules.specs.Ranges.{in_bounds, fits_set_up}
 use Rattle.rules.specs.Calls.{Wanted, new_state, set_up_call}
-use Rattle.rules.specs.CallLaws.{set_up_done, set_up_not}
+use Rattle.rules.proofs.CallLaws.{set_up_done, set_up_not}
 use Rattle.push_safety.specs.TestedLaws.{bounds_say}
 use Rattle.rules.specs.declared.Step.{Step}
 use Rattle.set_up.specs.declared.Wanted.{Wanted as Asking}

@@ -4,8 +4,8 @@ use Rattle.std.proofs.Math.Decide.{ℕ_discrete}
 use Rattle.std.proofs.Common.{eq-eqb, ne_eqb}
 use Rattle.state.specs.World.{World}
 use Rattle.rules.specs.Batch.{Batch}
-use Rattle.rules.specs.CallLaws.{push_refused, finish_refused, drop-refused}
-use Rattle.rules.specs.RegisterLaws.{register_refused, let_go_refused}
+use Rattle.rules.proofs.CallLaws.{push_refused, finish_refused, drop-refused}
+use Rattle.rules.proofs.RegisterLaws.{register_refused, let_go_refused}
 use Rattle.codes.specs.Code.{decoded}
 use Rattle.crossing.specs.Cross.{pair}
 use Rattle.capi.specs.Api.{Memory, Form, number, both, Given, pushing, finishing, dropping, registering, letting_go, world_in, coded, uncoded, called}

@@ -10,7 +10,7 @@ use Rattle.rules.specs.declared.Fault.{Fault}
 use Rattle.rules.specs.Batch.{Batch, batch}
 use Rattle.rules.specs.Checks.{fault_of, is_fault, column_fault, batch_fault}
 use Rattle.rules.specs.ExitLaws.{batch_two, batch_three, batch-at, batch-none}
-use Rattle.rules.specs.CheckLaws.{ColumnBad, four, five, six, seven, column_bad}
+use Rattle.rules.proofs.CheckLaws.{ColumnBad, four, five, six, seven, column_bad}
 use Rattle.checks.specs.Checked.{fault_at, faulty_at}
 
 -- the fault of a column has a number

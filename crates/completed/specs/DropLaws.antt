@@ -26,7 +26,7 @@ use Rattle.ranges.specs.SaysLaws.{says_used, says_no_list, says_few_listed, says
 use Rattle.rules.specs.Ranges.{tested}
 use Rattle.rules.specs.Steps.{each, counting, with_counts}
 use Rattle.rules.specs.Calls.{list_dropped, uncounted, dropped, drop_call}
-use Rattle.rules.specs.CallLaws.{drop-tested, drop-empty, drop-front}
+use Rattle.rules.proofs.CallLaws.{drop-tested, drop-empty, drop-front}
 use Rattle.completed.specs.declared.Dropped.{Dropped}
 use Rattle.ranges.specs.Passed.{PassedTests, passed_few, passed_slots, passed_books}
 use Rattle.completed.specs.Drop.{list_off, lists_off, counts_off, Droppable, DropsFront, Drops}

@@ -6,7 +6,7 @@ use Rattle.state.specs.World.{World, world}
 use Rattle.rules.specs.Steps.{Res, ok, refuse}
 use Rattle.rules.specs.Held.{holds_not}
 use Rattle.rules.specs.Push.{finished, if_full}
-use Rattle.rules.specs.PushLaws.{finished_holds, full_holds}
+use Rattle.rules.proofs.PushLaws.{finished_holds, full_holds}
 use Rattle.rules.specs.Calls.{Answered, or_old}
 use Rattle.rules.specs.declared.Step.{Step}
 use Rattle.rules.specs.Leaves.{Steps}

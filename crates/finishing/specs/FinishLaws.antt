@@ -12,8 +12,8 @@ use Rattle.rules.specs.Steps.{ok, each, counting, queueing}
 use Rattle.rules.specs.Views.{closed}
 use Rattle.rules.specs.Calls.{or_old}
 use Rattle.rules.specs.Push.{all_closed, finished, if_full}
-use Rattle.rules.specs.StepLaws.{finished-none, finished_nine, finished_queues, full_finishes, full_not}
-use Rattle.rules.specs.PartLaws.{closed_beside}
+use Rattle.rules.proofs.StepLaws.{finished-none, finished_nine, finished_queues, full_finishes, full_not}
+use Rattle.rules.proofs.PartLaws.{closed_beside}
 use Rattle.push_safety.specs.Run.{Run}
 use Rattle.push_safety.specs.BlockGoes.{closed_goes}
 use Rattle.push_safety.specs.Along.{Along, along_refl, along_trans, along_in}

@@ -10,8 +10,8 @@ use Rattle.rules.specs.Steps.{Res, ok, refuse}
 use Rattle.rules.specs.Push.{pushed, finished}
 use Rattle.rules.specs.Calls.{or_old, push_call, drop_call}
 use Rattle.rules.specs.Held.{Among, among_not, Holds, held, refused}
-use Rattle.rules.specs.CallLaws.{finish_steps, drop-empty, drop-front}
-use Rattle.rules.specs.RegisterLaws.{register_steps, let_go_steps}
+use Rattle.rules.proofs.CallLaws.{finish_steps, drop-empty, drop-front}
+use Rattle.rules.proofs.RegisterLaws.{register_steps, let_go_steps}
 use Rattle.invariant.specs.Holding.{Between}
 use Rattle.invariant.proofs.Calls.After.{After}
 use Rattle.invariant.proofs.Calls.FinishAfter.{QueuesBuffered, finished-after}

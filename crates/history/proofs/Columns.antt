@@ -6,8 +6,8 @@ use Rattle.state.specs.declared.BatchCoalescer.{BatchCoalescer}
 use Rattle.state.specs.Rows.{slot_row}
 use Rattle.rules.specs.Batch.{Batch, batch_row}
 use Rattle.rules.specs.Calls.{Answered, Wanted, new_state, set_up_call}
-use Rattle.rules.specs.CallLaws.{set_up_zero, set_up_done, push_stays, finish_stays, drop_stays}
-use Rattle.rules.specs.RegisterLaws.{register_stays, let_go_stays}
+use Rattle.rules.proofs.CallLaws.{set_up_zero, set_up_done, push_stays, finish_stays, drop_stays}
+use Rattle.rules.proofs.RegisterLaws.{register_stays, let_go_stays}
 use Rattle.invariant.specs.RowLaws.{length-upTo}
 use Rattle.history.specs.Call.{Call, push, finish, drop, register, let_go, limit, read, step, run}
 use Rattle.history.proofs.History.{did}

@@ -14,7 +14,7 @@ use Rattle.state.specs.World.{World}
 use Rattle.state.specs.Layout.{rows_in, queued_slot}
 use Rattle.state.specs.Rows.{up_to, joined, front_slot, slot_rows, taken_rows, queued_batches, queued_rows, buffered_rows}
 use Rattle.rules.specs.Calls.{Wanted, set_up_call, drop_call, buffered_count, has_completed, is_empty}
-use Rattle.rules.specs.CallLaws.{drop-empty, drop-front}
+use Rattle.rules.proofs.CallLaws.{drop-empty, drop-front}
 use Rattle.invariant.specs.Holding.{Between}
 use Rattle.invariant.specs.RowLaws.{upTo-first, length-rows, length-batches}
 use Rattle.invariant.proofs.Calls.After.{rows_are}

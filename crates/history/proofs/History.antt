@@ -7,8 +7,8 @@ use Rattle.state.specs.World.{World}
 use Rattle.state.specs.Rows.{Row, joined, queued_batches, queued_rows, buffered_rows}
 use Rattle.rules.specs.Ranges.{tested}
 use Rattle.rules.specs.Calls.{Answered, Wanted, new_state, set_up_call}
-use Rattle.rules.specs.CallLaws.{set_up_zero, set_up_done, push_stays, finish_stays, drop_stays}
-use Rattle.rules.specs.RegisterLaws.{register_stays, let_go_stays}
+use Rattle.rules.proofs.CallLaws.{set_up_zero, set_up_done, push_stays, finish_stays, drop_stays}
+use Rattle.rules.proofs.RegisterLaws.{register_stays, let_go_stays}
 use Rattle.invariant.specs.Holding.{Between}
 use Rattle.invariant.specs.RowLaws.{length-rows}
 use Rattle.invariant.proofs.Calls.After.{rows_are}

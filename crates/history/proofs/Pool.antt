@@ -16,8 +16,8 @@ use Rattle.rules.specs.Steps.{Res, ok, refuse}
 use Rattle.rules.specs.Push.{pushed, finished}
 use Rattle.rules.specs.Held.{Among, Holds, held, refused}
 use Rattle.rules.specs.Calls.{or_old, push_call, finish_call, drop_call, register_call, let_go_call, buffer_call}
-use Rattle.rules.specs.CallLaws.{finish_steps, drop-tested, drop-empty, drop-front, dropped_stays}
-use Rattle.rules.specs.RegisterLaws.{register_steps, let_go_tested, let_go_steps, let_go_stays}
+use Rattle.rules.proofs.CallLaws.{finish_steps, drop-tested, drop-empty, drop-front, dropped_stays}
+use Rattle.rules.proofs.RegisterLaws.{register_steps, let_go_tested, let_go_steps, let_go_stays}
 use Rattle.invariant.specs.Holding.{Between, PoolStays}
 use Rattle.invariant.proofs.PoolLaws.{relisted_is, pool_refl}
 use Rattle.invariant.proofs.Calls.PushAfter.{RowsBehind, refusals, pushed-after}

@@ -22,7 +22,7 @@ use Rattle.state.specs.Layout.{width_of, is_views, bitmap_place, cell_place, row
 use Rattle.state.proofs.LayoutLaws.{views_width, cell_in}
 use Rattle.state.proofs.SlotLaws.{queued_in, queued_place}
 use Rattle.state.specs.Rows.{null, value, listed_at, buffer_at, cell_of, slot_cell, front_slot, taken_rows}
-use Rattle.rules.specs.CallLaws.{set_up_zero, set_up_done}
+use Rattle.rules.proofs.CallLaws.{set_up_zero, set_up_done}
 use Rattle.rules.specs.Calls.{Answered, Wanted, set_up_call, view_answer, value_answer, is_row, read_row, read_as}
 use Rattle.invariant.specs.Holding.{reach, Between}
 use Rattle.invariant.proofs.Rests.{reach_other, buffer_number_lem, number-listed}

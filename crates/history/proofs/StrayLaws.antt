@@ -6,8 +6,8 @@ use Rattle.state.specs.Rows.{Row, joined, queued_rows, buffered_rows}
 use Rattle.rules.specs.Batch.{batch_rows}
 use Rattle.rules.specs.Ranges.{tested}
 use Rattle.rules.specs.Calls.{Wanted, set_up_call, push_call, drop_call}
-use Rattle.rules.specs.CallLaws.{push_refused, finish_refused, drop-refused}
-use Rattle.rules.specs.RegisterLaws.{register_refused, let_go_refused}
+use Rattle.rules.proofs.CallLaws.{push_refused, finish_refused, drop-refused}
+use Rattle.rules.proofs.RegisterLaws.{register_refused, let_go_refused}
 use Rattle.invariant.proofs.Calls.Tested.{between-tested}
 use Rattle.history.specs.Call.{Call, push, finish, drop, register, let_go, limit, read, Did, if_done, front, step, run}
 use Rattle.history.proofs.History.{first, did, all, in_order_lem, below_target}

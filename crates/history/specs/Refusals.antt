@@ -8,9 +8,9 @@ use Rattle.pool.specs.Register.{refusal_of, refused, settled_at, registered}
 use Rattle.rules.specs.Batch.{Batch}
 use Rattle.rules.specs.Held.{Among, one_of, among-more}
 use Rattle.rules.specs.Calls.{Answered, RegisterAnswer, push_call, finish_call, drop_call, register_call, let_go_call}
-use Rattle.rules.specs.CallLaws.{old_among, finish_steps, drop-number}
-use Rattle.rules.specs.RegisterLaws.{LetGoCase, let_go_case, register_steps}
-use Rattle.rules.specs.PartLaws.{chosen-among}
+use Rattle.rules.proofs.CallLaws.{old_among, finish_steps, drop-number}
+use Rattle.rules.proofs.RegisterLaws.{LetGoCase, let_go_case, register_steps}
+use Rattle.rules.proofs.PartLaws.{chosen-among}
 use Rattle.invariant.specs.Holding.{Between}
 use Rattle.invariant.proofs.Calls.FinishAfter.{finished-after}
 use Rattle.invariant.proofs.Calls.PushAfter.{refusals, pushed-after}

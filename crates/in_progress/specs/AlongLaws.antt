@@ -11,7 +11,7 @@ use Rattle.rules.specs.Views.{closed, block_opened}
 use Rattle.rules.specs.Held.{holds_ok}
 use Rattle.rules.specs.Stays.{beside_state}
 use Rattle.rules.specs.SameLaws.{same_values_place, same_long_before}
-use Rattle.rules.specs.PartLaws.{closed_beside, opened_holds, views_holds}
+use Rattle.rules.proofs.PartLaws.{closed_beside, opened_holds, views_holds}
 use Rattle.state.specs.declared.BatchCoalescer.{BatchCoalescer}
 use Rattle.state.specs.World.{World, world}
 use Rattle.state.specs.Layout.{values_place}

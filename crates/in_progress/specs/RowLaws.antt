@@ -15,7 +15,7 @@ use Rattle.rules.specs.declared.Way.{Way}
 use Rattle.rules.specs.Batch.{Batch, batch, record_of, has_bitmap, ideal}
 use Rattle.rules.specs.Views.{span, bits_copied, by_way, part_compacted}
 use Rattle.rules.specs.SameLaws.{same-ideal}
-use Rattle.rules.specs.PartLaws.{bits_beside}
+use Rattle.rules.proofs.PartLaws.{bits_beside}
 use Rattle.state.specs.declared.BatchCoalescer.{BatchCoalescer}
 use Rattle.state.specs.World.{World, world}
 use Rattle.state.specs.Layout.{width_of, is_views, bitmap_bytes}

@@ -15,7 +15,7 @@ use Rattle.state.specs.World.{World, world}
 use Rattle.rules.specs.declared.Fault.{Fault}
 use Rattle.rules.specs.Batch.{Batch, batch, value_place, row_view, listed_bytes}
 use Rattle.rules.specs.Checks.{keeps_rules, lies_in_body, all_held, valid_row, bad_row, column_fault, batch_fault, fault_of}
-use Rattle.rules.specs.CheckLaws.{fault-number}
+use Rattle.rules.proofs.CheckLaws.{fault-number}
 use Rattle.rules.specs.Held.{among_not}
 use Rattle.rules.specs.Steps.{ok, refuse}
 use Rattle.rules.specs.Push.{pushed, stepped}

@@ -22,7 +22,7 @@ use Rattle.state.specs.Layout.{list_place, list_length, tally}
 use Rattle.rules.specs.Steps.{ok, refuse, with_column, counting, listing}
 use Rattle.rules.specs.Views.{block_number, open_number, closed, opening, block_opened}
 use Rattle.rules.specs.Held.{among_not}
-use Rattle.rules.specs.PartLaws.{block_among}
+use Rattle.rules.proofs.PartLaws.{block_among}
 use Rattle.rules.specs.declared.Step.{Step}
 use Rattle.rules.specs.Leaves.{steps-done, steps-refused}
 use Rattle.columns.specs.SourceLaws.{list_same}

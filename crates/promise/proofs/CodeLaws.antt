@@ -9,7 +9,7 @@ use Rattle.rules.specs.declared.Step.{Step}
 use Rattle.rules.specs.Batch.{batch_rows}
 use Rattle.rules.specs.Ranges.{tested}
 use Rattle.rules.specs.Calls.{Answered, Wanted, set_up_call, drop_call, register_call}
-use Rattle.rules.specs.CallLaws.{set_up_zero, set_up_done}
+use Rattle.rules.proofs.CallLaws.{set_up_zero, set_up_done}
 use Rattle.set_up.specs.SetUp.{SetsUp}
 use Rattle.capi.specs.ApiLaws.{drop-same, register_same, let_go_same}
 use Rattle.invariant.proofs.Calls.Tested.{between-tested}

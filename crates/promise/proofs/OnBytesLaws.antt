@@ -18,8 +18,8 @@ use Rattle.state.specs.Rows.{Row, null, joined, front_slot, taken_rows, queued_r
 use Rattle.rules.specs.Batch.{Batch, batch_rows}
 use Rattle.rules.specs.Steps.{in_state, with_limit}
 use Rattle.rules.specs.Calls.{Answered, RegisterAnswer, Wanted, set_up_call, push_call, finish_call, Dropped, drop_call, register_call, let_go_call, is_row, read_row, read_as}
-use Rattle.rules.specs.CallLaws.{set_up_zero, set_up_done, drop-number, drop-empty, drop-front}
-use Rattle.rules.specs.RegisterLaws.{register_steps}
+use Rattle.rules.proofs.CallLaws.{set_up_zero, set_up_done, drop-number, drop-empty, drop-front}
+use Rattle.rules.proofs.RegisterLaws.{register_steps}
 use Rattle.push_safety.specs.TestedLaws.{bounds_say}
 use Rattle.codes.specs.declared.Coded.{Coded}
 use Rattle.codes.specs.Code.{state_bytes, code_of, limit_in, limited, decoded}

@@ -14,8 +14,8 @@ use Rattle.state.proofs.SlotLaws.{queued_in}
 use Rattle.state.specs.Rows.{front_slot}
 use Rattle.rules.specs.Ranges.{tested}
 use Rattle.rules.specs.Calls.{RegisterAnswer, Dropped, drop_call, register_call, row_refusal}
-use Rattle.rules.specs.CallLaws.{drop-tested, drop-empty, drop-front}
-use Rattle.rules.specs.RegisterLaws.{register_tested, register_steps}
+use Rattle.rules.proofs.CallLaws.{drop-tested, drop-empty, drop-front}
+use Rattle.rules.proofs.RegisterLaws.{register_tested, register_steps}
 use Rattle.ranges.specs.SaysLaws.{says_few, says-rows, says-place, says_slot}
 use Rattle.codes.specs.Code.{state_bytes, limit_in, limited, decoded}
 use Rattle.crossing.specs.Cross.{pair, number_in, row_bytes}

@@ -18,7 +18,7 @@ use Rattle.rules.specs.Batch.{Batch, record_of, listed_number, list_of}
 use Rattle.rules.specs.Views.{span, filling, closed, list_attached, part_attached}
 use Rattle.rules.specs.Held.{Among, one_of, Holds, held, refused, holds_cond}
 use Rattle.rules.specs.Stays.{Beside, same_refl}
-use Rattle.rules.specs.PartLaws.{closed_beside}
+use Rattle.rules.proofs.PartLaws.{closed_beside}
 use Rattle.push_safety.specs.Run.{Run, ColumnReads, Readable, Goes}
 use Rattle.push_safety.specs.TestedLaws.{bounds_say}
 use Rattle.push_safety.specs.ReadLaws.{held_used}

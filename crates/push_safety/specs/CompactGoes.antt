@@ -9,7 +9,7 @@ use Rattle.rules.specs.Batch.{Batch, ideal}
 use Rattle.rules.specs.Views.{span, is_open, open_rest, closed, block_opened, long_before, views_compacted, walked, part_compacted}
 use Rattle.rules.specs.Held.{Among, Holds, holds_more, holds_bind, holds_cond, holds_among}
 use Rattle.rules.specs.SameLaws.{same_long_before}
-use Rattle.rules.specs.PartLaws.{closed_beside, opened_holds, views_holds}
+use Rattle.rules.proofs.PartLaws.{closed_beside, opened_holds, views_holds}
 use Rattle.push_safety.specs.Run.{Run, Goes}
 use Rattle.push_safety.specs.SumLaws.{before_more, part_ideal, walked_most, walked-rest}
 use Rattle.push_safety.specs.BlockGoes.{closed_goes}

@@ -13,8 +13,8 @@ use Rattle.rules.specs.Views.{is_open, closed}
 use Rattle.rules.specs.Push.{all_closed, finished, if_full}
 use Rattle.rules.specs.Held.{Among, one_of, Holds, held, refused, holds_more, holds_cond}
 use Rattle.rules.specs.SameLaws.{same_views}
-use Rattle.rules.specs.PartLaws.{closed_beside}
-use Rattle.rules.specs.PushLaws.{queueing-ends}
+use Rattle.rules.proofs.PartLaws.{closed_beside}
+use Rattle.rules.proofs.PushLaws.{queueing-ends}
 use Rattle.push_safety.specs.Run.{Run, Goes}
 use Rattle.push_safety.specs.TestedLaws.{bounds_say}
 use Rattle.push_safety.specs.BooksGo.{tally_go}

@@ -27,7 +27,7 @@ use Rattle.rules.specs.Steps.{ok, with_column, in_state, in_books}
 use Rattle.rules.specs.Views.{span, filling, has_block, block_number, is_open, open_number, open_filled, open_rest, opening, block_opened, views_from, long_before, views_compacted}
 use Rattle.rules.specs.Held.{Among, one_of, Holds, held, refused, holds_more, holds_cond, holds_ok, holds_among}
 use Rattle.rules.specs.Stays.{same_refl}
-use Rattle.rules.specs.PartLaws.{block_among}
+use Rattle.rules.proofs.PartLaws.{block_among}
 use Rattle.push_safety.specs.Run.{Run, Goes}
 use Rattle.push_safety.specs.TestedLaws.{bounds_say}
 use Rattle.push_safety.specs.BooksGo.{taken_at, taken_go, taken_in, length_at, length_go}

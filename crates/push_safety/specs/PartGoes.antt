@@ -7,7 +7,7 @@ use Rattle.rules.specs.Batch.{Batch, way}
 use Rattle.rules.specs.Views.{span, filling, bits_copied, by_way, column_copied, part_copied}
 use Rattle.rules.specs.Push.{part_taken}
 use Rattle.rules.specs.Held.{Among, Holds, held, holds_more, holds_bind, holds_each, holds_among}
-use Rattle.rules.specs.PartLaws.{bits_beside, column_holds}
+use Rattle.rules.proofs.PartLaws.{bits_beside, column_holds}
 use Rattle.push_safety.specs.Run.{Run, Readable, Goes}
 use Rattle.push_safety.specs.Firm.{goes_trans}
 use Rattle.push_safety.specs.StepGoes.{bits_goes, values_goes, buffering_goes}

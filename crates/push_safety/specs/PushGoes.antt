@@ -13,11 +13,11 @@ use Rattle.rules.specs.Steps.{bind}
 use Rattle.rules.specs.Push.{finished, part_taken, if_full, cut_up, over_limit, stepped, pushed}
 use Rattle.rules.specs.Turns.{space, coalesced}
 use Rattle.rules.specs.Held.{Among, one_of, among-more, Holds, held, refused, holds_more, holds_bind, holds_among}
-use Rattle.rules.specs.CheckLaws.{fault-number}
+use Rattle.rules.proofs.CheckLaws.{fault-number}
 use Rattle.rules.specs.Ranges.{fits_set_up, state_in_range, tested}
 use Rattle.rules.specs.TestLaws.{range_counted}
 use Rattle.rules.specs.Stays.{kept_trans}
-use Rattle.rules.specs.PushLaws.{PushCase, push_case, Ends, finished_holds, taken_holds, coalesced_is, push_numbers}
+use Rattle.rules.proofs.PushLaws.{PushCase, push_case, Ends, finished_holds, taken_holds, coalesced_is, push_numbers}
 use Rattle.push_safety.specs.Run.{Run, Readable, Goes}
 use Rattle.push_safety.specs.TestedLaws.{tested-run}
 use Rattle.push_safety.specs.ReadLaws.{fault_readable}

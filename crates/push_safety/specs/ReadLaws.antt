@@ -24,7 +24,7 @@ use Rattle.rules.specs.Batch.{Batch, record_of, has_bitmap, listed_number, bytes
 use Rattle.rules.specs.Views.{source_place}
 use Rattle.rules.specs.Ranges.{is_kind, in_bounds}
 use Rattle.rules.specs.Checks.{is_ruled, keeps_rules, in_body, bitmap_need, lies_within, lies_in_body, held_all, all_held, valid_row, batch_fault}
-use Rattle.rules.specs.CheckLaws.{ColumnGood, BatchGood, batch_good}
+use Rattle.rules.proofs.CheckLaws.{ColumnGood, BatchGood, batch_good}
 use Rattle.push_safety.specs.TestedLaws.{bounds_say}
 use Rattle.push_safety.specs.Run.{Run, ColumnReads, RowReads, Readable}
 

@@ -22,7 +22,7 @@ use Rattle.rules.specs.Steps.{with_counts, with_column, in_state, buffering, cou
 use Rattle.rules.specs.Views.{span, bits_laid, values_laid, bits_copied, values_copied, views_raised}
 use Rattle.rules.specs.CopyLaws.{length-views_put}
 use Rattle.rules.specs.Stays.{SameSetUp, same_counts, same-column, beside_kept}
-use Rattle.rules.specs.PartLaws.{counting_beside}
+use Rattle.rules.proofs.PartLaws.{counting_beside}
 use Rattle.push_safety.specs.Run.{Run, Goes}
 use Rattle.push_safety.specs.BooksGo.{go_refl, tally_go}
 use Rattle.push_safety.specs.Firm.{Firm, FirmGoes, run_firm, same_list_length, firm_goes, spare_goes, goes_both, slots_goes, slots_firm}

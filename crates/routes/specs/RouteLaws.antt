@@ -10,7 +10,7 @@ use Rattle.rules.specs.Batch.{Batch}
 use Rattle.rules.specs.Steps.{bind}
 use Rattle.rules.specs.Push.{finished, queued_whole, over_limit, stepped}
 use Rattle.rules.specs.Turns.{coalesced}
-use Rattle.rules.specs.StepLaws.{stepped_small, stepped-whole, stepped_finishes, stepped_on}
+use Rattle.rules.proofs.StepLaws.{stepped_small, stepped-whole, stepped_finishes, stepped_on}
 use Rattle.routes.specs.declared.Route.{Route}
 use Rattle.routes.specs.Route.{route_of}
 

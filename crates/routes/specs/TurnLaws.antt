@@ -7,8 +7,8 @@ use Rattle.rules.specs.Steps.{Res, ok, refuse, bind}
 use Rattle.rules.specs.Push.{finished, part_taken, if_full}
 use Rattle.rules.specs.Turns.{space, coalesced, coalesced-last}
 use Rattle.rules.specs.Held.{holds_ok}
-use Rattle.rules.specs.PushLaws.{Ends, taken_holds}
-use Rattle.rules.specs.StepLaws.{full_finishes}
+use Rattle.rules.proofs.PushLaws.{Ends, taken_holds}
+use Rattle.rules.proofs.StepLaws.{full_finishes}
 
 -- behind a part that fills the slot, finishing if it is full is finishing
 pub full_turn : (w₀ w : World) (b : Batch) (from n : ℕ) → w.state.buffered.0 + n ≡ w.state.target.0 → bind (part_taken w₀ w b from n) if_full ≡ bind (part_taken w₀ w b from n) finished

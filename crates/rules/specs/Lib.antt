@@ -15,12 +15,5 @@ pub mod Stays
 pub mod TestLaws
 pub mod SameLaws
 pub mod ExitLaws
-pub mod CheckLaws
-pub mod StepLaws
 pub mod CopyLaws
-pub mod WayLaws
-pub mod PartLaws
-pub mod PushLaws
-pub mod RegisterLaws
-pub mod CallLaws
 pub mod SizeLaws

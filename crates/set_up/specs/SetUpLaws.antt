@@ -16,7 +16,7 @@ use Rattle.blocks.specs.Block.{fresh}
 use Rattle.rules.specs.Ranges.{fits_set_up}
 use Rattle.ranges.specs.Tested.{fits_lengths}
 use Rattle.rules.specs.Calls.{of_kind, columns_for, new_state, no_state, set_up_call}
-use Rattle.rules.specs.CallLaws.{set_up_done, set_up_not}
+use Rattle.rules.proofs.CallLaws.{set_up_done, set_up_not}
 use Rattle.set_up.specs.declared.Wanted.{Wanted}
 use Rattle.set_up.specs.SetUp.{padded, wanted_of, kind_at, kinds_put, SetsUp}
 

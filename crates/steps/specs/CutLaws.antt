@@ -8,7 +8,7 @@ use Rattle.rules.specs.Push.{finished, part_taken, if_full}
 use Rattle.rules.specs.Turns.{space, coalesced, coalesced-turn}
 use Rattle.rules.specs.Held.{holds_ok}
 use Rattle.rules.specs.Stays.{SameSetUp, same_refl, same_trans}
-use Rattle.rules.specs.PushLaws.{Ends, taken_holds, finished_holds}
+use Rattle.rules.proofs.PushLaws.{Ends, taken_holds, finished_holds}
 use Rattle.push_safety.specs.Run.{Goes}
 use Rattle.push_safety.specs.CallerLaws.{run_bounds}
 use Rattle.push_safety.specs.Firm.{goes_refl, goes_trans}

@@ -19,7 +19,7 @@ use Rattle.rules.specs.Push.{part_taken, if_full}
 use Rattle.rules.specs.Held.{holds_ok}
 use Rattle.rules.specs.Stays.{SameSetUp, same_trans}
 use Rattle.rules.specs.SameLaws.{same_values_place}
-use Rattle.rules.specs.PartLaws.{column_holds}
+use Rattle.rules.proofs.PartLaws.{column_holds}
 use Rattle.push_safety.specs.Run.{Run}
 use Rattle.push_safety.specs.CallerLaws.{record_room}
 use Rattle.push_safety.specs.Along.{Along, along_refl, along_trans, along_in}

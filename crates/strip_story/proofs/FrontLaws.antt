@@ -7,7 +7,7 @@ use Rattle.std.proofs.Math.ListN.{get_or-append}
 use Rattle.state.specs.World.{World}
 use Rattle.state.specs.Layout.{rows_in, queued_slot}
 use Rattle.state.specs.Rows.{Row, up_to, joined, front_slot, slot_rows, taken_rows, queued_batches}
-use Rattle.rules.specs.CallLaws.{drop-number}
+use Rattle.rules.proofs.CallLaws.{drop-number}
 use Rattle.invariant.specs.Holding.{Between}
 use Rattle.invariant.specs.RowLaws.{upTo-first, length-rows, length-batches}
 use Rattle.invariant.proofs.Calls.Tested.{between-tested}

@@ -8,7 +8,7 @@ use Rattle.state.specs.Layout.{rows_in}
 use Rattle.state.specs.Rows.{front_slot, taken_rows}
 use Rattle.rules.specs.Ranges.{tested}
 use Rattle.rules.specs.Calls.{drop_call}
-use Rattle.rules.specs.CallLaws.{drop-number, drop-empty, drop-front}
+use Rattle.rules.proofs.CallLaws.{drop-number, drop-empty, drop-front}
 use Rattle.rules.specs.Calls as calls
 use Rattle.invariant.specs.RowLaws.{length-rows}
 use Rattle.history.specs.Call.{Call, drop, front}

@@ -8,7 +8,7 @@ use Rattle.words.specs.WordLaws.{Bytes}
 use Rattle.state.specs.World.{World}
 use Rattle.rules.specs.Ranges.{tested}
 use Rattle.rules.specs.Calls.{drop_call}
-use Rattle.rules.specs.CallLaws.{drop-number}
+use Rattle.rules.proofs.CallLaws.{drop-number}
 use Rattle.codes.specs.Code.{decoded}
 use Rattle.crossing.specs.Cross.{pair}
 use Rattle.capi.specs.Api.{Memory, memory, said, both, dropping, world_in, coded, called}

@@ -8,7 +8,7 @@ use Rattle.rules.specs.Batch.{Batch}
 use Rattle.rules.specs.Steps.{Res, ok, refuse}
 use Rattle.rules.specs.Push.{stepped}
 use Rattle.rules.specs.Held.{holds_not}
-use Rattle.rules.specs.PushLaws.{stepped_holds}
+use Rattle.rules.proofs.PushLaws.{stepped_holds}
 use Rattle.rules.specs.Stays.{same_refl}
 use Rattle.columns.specs.Pushing.{Pushing}
 use Rattle.columns.specs.SourceLaws.{source-same}

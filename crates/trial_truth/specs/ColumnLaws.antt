@@ -12,7 +12,7 @@ use Rattle.rules.specs.Steps.{with_column}
 use Rattle.rules.specs.Views.{span, filling, closed, part_attached}
 use Rattle.rules.specs.Stays.{same-column}
 use Rattle.rules.specs.SameLaws.{same_views}
-use Rattle.rules.specs.StepLaws.{attached_ten, attached_done}
+use Rattle.rules.proofs.StepLaws.{attached_ten, attached_done}
 use Rattle.columns.specs.Column.{closed_length}
 use Rattle.columns.specs.SourceLaws.{closed-length}
 use Rattle.trial_truth.specs.Like.{Like, Follows}

@@ -9,7 +9,7 @@ use Rattle.rules.specs.Steps.{Res, bind}
 use Rattle.rules.specs.Push.{finished, part_taken, if_full}
 use Rattle.rules.specs.Turns.{space, coalesced, coalesced-turn}
 use Rattle.rules.specs.Stays.{SameSetUp, same_trans}
-use Rattle.rules.specs.StepLaws.{full_finishes, full_not}
+use Rattle.rules.proofs.StepLaws.{full_finishes, full_not}
 use Rattle.rules.specs.declared.Step.{Step}
 use Rattle.routes.specs.declared.Sources.{Sources}
 use Rattle.routes.specs.TurnLaws.{full_turn, ends_cut}

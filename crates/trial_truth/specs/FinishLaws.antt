@@ -16,7 +16,7 @@ use Rattle.rules.specs.Push.{all_closed, finished}
 use Rattle.rules.specs.Stays.{SameSetUp, same_refl, same_trans, same_counts}
 use Rattle.rules.specs.SameLaws.{same_next}
 use Rattle.rules.specs.Held.{holds_ok}
-use Rattle.rules.specs.StepLaws.{finished_nine, finished_queues}
+use Rattle.rules.proofs.StepLaws.{finished_nine, finished_queues}
 use Rattle.push_safety.specs.Run.{Run}
 use Rattle.push_safety.specs.Firm.{run_firm}
 use Rattle.push_safety.specs.StepGoes.{list_cases}

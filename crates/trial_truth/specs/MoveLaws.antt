@@ -23,7 +23,7 @@ use Rattle.rules.specs.Steps.{ok, counting, listing}
 use Rattle.rules.specs.Views.{span, filling, is_open, open_number, open_filled, open_rest, closed, views_from, source_place, long_before, views_compacted, list_attached, views_raised}
 use Rattle.rules.specs.Held.{holds_ok}
 use Rattle.rules.specs.Stays.{same_refl}
-use Rattle.rules.specs.PartLaws.{closed_beside, attached_beside, raised_beside, views_holds}
+use Rattle.rules.proofs.PartLaws.{closed_beside, attached_beside, raised_beside, views_holds}
 use Rattle.push_safety.specs.Run.{Run, ColumnReads, Readable}
 use Rattle.push_safety.specs.TestedLaws.{bounds_say}
 use Rattle.push_safety.specs.BooksGo.{BooksGo, length_at, over_go}

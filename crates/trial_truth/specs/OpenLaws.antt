@@ -28,8 +28,8 @@ use Rattle.rules.specs.Views.{span, filling, block_number, open_number, block_op
 use Rattle.rules.specs.Held.{among_not, holds_ok}
 use Rattle.rules.specs.Stays.{Beside, same_refl, same-column}
 use Rattle.rules.specs.SameLaws.{same_views, same_long_before}
-use Rattle.rules.specs.PartLaws.{block_among, opened_holds}
-use Rattle.rules.specs.StepLaws.{opened_ten}
+use Rattle.rules.proofs.PartLaws.{block_among, opened_holds}
+use Rattle.rules.proofs.StepLaws.{opened_ten}
 use Rattle.rules.specs.declared.Step.{Step}
 use Rattle.push_safety.specs.Firm.{run_firm, same_list_length}
 use Rattle.push_safety.specs.StepGoes.{column-new}

@@ -11,7 +11,7 @@ use Rattle.rules.specs.Steps.{Res, ok, refuse, bind, queueing}
 use Rattle.rules.specs.Views.{filling}
 use Rattle.rules.specs.Push.{finished, columns_whole, queued_whole}
 use Rattle.rules.specs.Stays.{same_refl}
-use Rattle.rules.specs.StepLaws.{finished-none}
+use Rattle.rules.proofs.StepLaws.{finished-none}
 use Rattle.rules.specs.declared.Step.{Step}
 use Rattle.records.specs.RecordLaws.{record_same}
 use Rattle.routes.specs.declared.Route.{Route}

@@ -12,7 +12,7 @@ use Rattle.rules.specs.Views.{filling, bits_copied, values_copied, list_attached
 use Rattle.rules.specs.Push.{finished, column_whole, columns_whole, queued_whole}
 use Rattle.rules.specs.Held.{holds_ok}
 use Rattle.rules.specs.Stays.{same_refl}
-use Rattle.rules.specs.PushLaws.{whole_beside, Ends, finished_holds}
+use Rattle.rules.proofs.PushLaws.{whole_beside, Ends, finished_holds}
 use Rattle.push_safety.specs.Run.{Run, Readable, Goes}
 use Rattle.push_safety.specs.CallerLaws.{run_bounds}
 use Rattle.push_safety.specs.BooksGo.{go_refl}

@@ -1,6 +1,6 @@
 -- `byte_view::way_of` meets its contract.
 use borrow.Author.Rules.{rules}
-use Rattle.rules.specs.WayLaws.{way-copied, way_compacted, way_attached}
+use Rattle.rules.proofs.WayLaws.{way-copied, way_compacted, way_attached}
 use Rattle.byte_view.proofs.way_of.Goals as goal
 
 pub returns-then-ideal-eq0 : goal.returns-then-ideal-eq0

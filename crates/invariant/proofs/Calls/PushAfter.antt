@@ -10,10 +10,10 @@ use Rattle.words.specs.WordLaws.{Bytes}
 use Rattle.state.specs.Rows.{Row, up_to, joined, queued_batches}
 use Rattle.rules.specs.Batch.{Batch, batch_row, batch_rows}
 use Rattle.rules.specs.Checks.{valid_row, batch_fault}
-use Rattle.rules.specs.CheckLaws.{batch_good, fault-number}
+use Rattle.rules.proofs.CheckLaws.{batch_good, fault-number}
 use Rattle.rules.specs.Ranges.{fits_set_up, state_in_range, tested}
 use Rattle.rules.specs.TestLaws.{TestedCase, not_set_up, out_of_range, passed, tested-case}
-use Rattle.rules.specs.PushLaws.{PushCase, push_case, coalesced_is}
+use Rattle.rules.proofs.PushLaws.{PushCase, push_case, coalesced_is}
 use Rattle.rules.specs.Steps.{bind}
 use Rattle.rules.specs.Push.{finished, part_taken, if_full, cut_up, over_limit, queued_whole, stepped, pushed}
 use Rattle.rules.specs.Turns.{space, coalesced}

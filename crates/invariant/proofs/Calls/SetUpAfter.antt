@@ -23,7 +23,7 @@ use Rattle.rules.specs.Batch.{sum_to}
 use Rattle.rules.specs.Views.{has_block}
 use Rattle.rules.specs.Ranges.{in_bounds, fits_set_up}
 use Rattle.rules.specs.Calls.{Wanted, columns_for, new_state, set_up_call}
-use Rattle.rules.specs.CallLaws.{set_up_done, set_up_zero}
+use Rattle.rules.proofs.CallLaws.{set_up_done, set_up_zero}
 use Rattle.push_safety.specs.Run.{Run}
 use Rattle.push_safety.specs.TestedLaws.{Bounds, bounds_say}
 use Rattle.invariant.specs.Holding.{reach, number_at, times_in, listings, rows_at, Holding, Between}

@@ -31,7 +31,7 @@ use Rattle.rules.specs.Batch.{Batch, record_of, listed_number, list_of, sum_to}
 use Rattle.rules.specs.Steps.{counting}
 use Rattle.rules.specs.Views.{has_block, list_attached}
 use Rattle.rules.specs.Stays.{Beside}
-use Rattle.rules.specs.PartLaws.{attached_beside}
+use Rattle.rules.proofs.PartLaws.{attached_beside}
 use Rattle.push_safety.specs.Run.{ColumnReads}
 use Rattle.push_safety.specs.TestedLaws.{bounds_say}
 use Rattle.push_safety.specs.BooksGo.{over_go, held_says}

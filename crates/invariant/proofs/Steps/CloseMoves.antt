@@ -21,7 +21,7 @@ use Rattle.rules.specs.Steps.{with_column, in_state, in_slots, counting, listing
 use Rattle.rules.specs.Views.{has_block, is_open, open_number, closed}
 use Rattle.rules.specs.Stays.{Beside, same-column}
 use Rattle.rules.specs.SameLaws.{same_views, same_list_place}
-use Rattle.rules.specs.PartLaws.{closed_beside}
+use Rattle.rules.proofs.PartLaws.{closed_beside}
 use Rattle.push_safety.specs.TestedLaws.{bounds_say}
 use Rattle.push_safety.specs.StepGoes.{column_cases, column-new}
 use Rattle.push_safety.specs.BlockGoes.{open_room, open_number_lem, closed_goes}

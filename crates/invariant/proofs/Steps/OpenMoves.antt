@@ -40,7 +40,7 @@ use Rattle.rules.specs.Views.{filling, has_block, block_number, is_open, open_nu
 use Rattle.rules.specs.Held.{Among, one_of, Holds, held, refused, holds_cond, holds_more, holds_among}
 use Rattle.rules.specs.Stays.{SameSetUp, Beside}
 use Rattle.rules.specs.SameLaws.{same_views, same_list_place, same-tally}
-use Rattle.rules.specs.PartLaws.{chosen-among, opened_holds}
+use Rattle.rules.proofs.PartLaws.{chosen-among, opened_holds}
 use Rattle.push_safety.specs.TestedLaws.{bounds_say}
 use Rattle.push_safety.specs.Firm.{same_list_length}
 use Rattle.push_safety.specs.StepGoes.{column_cases, column-new}

@@ -18,7 +18,7 @@ use Rattle.state.specs.Rows.{listed_at}
 use Rattle.rules.specs.Batch.{Batch, record_of, list_of}
 use Rattle.rules.specs.Steps.{counting}
 use Rattle.rules.specs.Views.{has_block, open_number, list_attached}
-use Rattle.rules.specs.PartLaws.{counting_beside}
+use Rattle.rules.proofs.PartLaws.{counting_beside}
 use Rattle.push_safety.specs.Run.{ColumnReads}
 use Rattle.push_safety.specs.StepGoes.{counting_goes}
 use Rattle.invariant.specs.Holding.{reach, number_at, listings, Holding, Stands, PoolStays}

@@ -18,8 +18,8 @@ use Rattle.rules.specs.Calls.{Wanted, or_old, new_state, no_state, set_up_call, 
 use Rattle.rules.specs.Held.{among, Among, among-more, among_not, Holds, held, refused, holds_not, holds_more, holds_cond}
 use Rattle.rules.specs.SizeLaws.{length-unlisted_one, length-over_list}
 use Rattle.rules.specs.Stays.{same_counts, Counted, Beside, beside_trans, each_beside, beside_state, Stays, stays_refl}
-use Rattle.rules.specs.PartLaws.{counting_beside}
-use Rattle.rules.specs.PushLaws.{finished_holds, ends_stays, pushed_holds}
+use Rattle.rules.proofs.PartLaws.{counting_beside}
+use Rattle.rules.proofs.PushLaws.{finished_holds, ends_stays, pushed_holds}
 
 -- ---- a result, and the old world where it is a refusal
 

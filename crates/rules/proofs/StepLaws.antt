@@ -10,7 +10,7 @@ use Rattle.rules.specs.Steps.{ok, refuse, bind, queueing}
 use Rattle.rules.specs.Views.{span, filling, closed, block_opened, list_attached, views_raised, part_attached}
 use Rattle.rules.specs.Push.{all_closed, finished, columns_whole, queued_whole, if_full, over_limit, stepped}
 use Rattle.rules.specs.Turns.{coalesced}
-use Rattle.rules.specs.PushLaws.{coalesced_is}
+use Rattle.rules.proofs.PushLaws.{coalesced_is}
 
 module _ (w : World) where
   -- ---- finishing

@@ -17,7 +17,7 @@ use Rattle.rules.specs.Calls.{register_call, let_go_call}
 use Rattle.rules.specs.Held.{Among, one_of, among-more, among_not}
 use Rattle.rules.specs.SizeLaws.{length-registered, pool-registered, length_let_go}
 use Rattle.rules.specs.Stays.{Stays, stays_refl, beside_state, beside_stays}
-use Rattle.rules.specs.PartLaws.{chosen-among}
+use Rattle.rules.proofs.PartLaws.{chosen-among}
 use Rattle.rules.specs.TestLaws.{tested-number}
 
 -- ---- register

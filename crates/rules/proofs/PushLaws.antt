@@ -23,8 +23,8 @@ use Rattle.rules.specs.Push.{all_closed, finished, column_whole, columns_whole, 
 use Rattle.rules.specs.Turns.{space, coalesced, coalesced-turn, coalesced-last}
 use Rattle.rules.specs.Held.{Among, one_of, among-more, Holds, held, refused, holds_ok, holds_bind, holds_more, holds_cond, holds_among}
 use Rattle.rules.specs.Stays.{same_counts, Beside, beside_refl, beside_trans, each_beside, beside_kept, Kept, kept_trans, Stays, stays_refl}
-use Rattle.rules.specs.PartLaws.{counting_beside, bits_beside, values_beside, closed_beside, attached_beside, part_holds}
-use Rattle.rules.specs.CheckLaws.{fault-number}
+use Rattle.rules.proofs.PartLaws.{counting_beside, bits_beside, values_beside, closed_beside, attached_beside, part_holds}
+use Rattle.rules.proofs.CheckLaws.{fault-number}
 
 -- ---- the ways of a push
 
