@@ -80,10 +80,12 @@ fn c_code(text: &str) -> String {
 fn exported() -> Signatures {
     let mut all = Signatures::new();
     for folder in fs::read_dir(at("crates")).expect("the crates") {
-        let code = fs::read_to_string(folder.expect("a crate").path().join("src/lib.rt")).unwrap_or_default(); // a program has none
-        for part in code.split("pub extern \"C\" fn ").skip(1) {
-            let (head, _) = part.split_once("ensures").expect("a promise");
-            all.extend(functions(head, rust_answer, rust_parameter));
+        for file in fs::read_dir(folder.expect("a crate").path().join("src")).into_iter().flatten() {
+            let code = fs::read_to_string(file.expect("a file").path()).unwrap_or_default(); // a folder has none
+            for part in code.split("pub extern \"C\" fn ").skip(1) {
+                let (head, _) = part.split_once("ensures").expect("a promise");
+                all.extend(functions(head, rust_answer, rust_parameter));
+            }
         }
     }
     all

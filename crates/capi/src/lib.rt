@@ -1,5 +1,5 @@
-// What each call of the C layer answers and leaves (specs/Api.antt), and the refusal that all but those on the state alone share. The exported functions
-// stand in crates of their own: `capi_set_up`, `capi_batches`, `capi_buffers`, `capi_reads`, `capi_state`.
+// What each call of the C layer answers and leaves (specs/Api.antt), and the refusal that all but those on the state alone share. The functions
+// stand in crates of their own: `capi_set_up`, `capi_batches`, `capi_buffers`, `capi_reads`, `capi_front`, `capi_state`; their exports in `puffwidget`.
 // No function trusts its caller beyond what a slice is: its contract says what it answers and leaves on any bytes. An answer of two numbers is
 // one u64: the refusal in the upper 32 bits, or 0, and the value in the lower.
 #![tactic(auto)]

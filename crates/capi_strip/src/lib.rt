@@ -1,4 +1,4 @@
-// The C layer, the player strip: an archive of its own. docs/HOST.md has each signature; specs/StripApi.antt says what each answers and leaves, on any bytes.
+// The C layer, the player strip. docs/HOST.md has each signature; specs/StripApi.antt says what each answers and leaves, on any bytes.
 #![tactic(auto)]
 
 ghost use Rattle.std.specs.Prelude.{◌≡◌};
