@@ -6,7 +6,7 @@ use Rattle.std.proofs.Math.ListN.{length}
 use Rattle.words.specs.Word.{word32}
 use Rattle.outs.specs.Coding.{name_in, names_in, strip_of, is_side, last_in}
 use Rattle.outs.specs.SideLaws.{coded-fits, coded_is, coded-count, coded_word, name_read}
-use Rattle.outs.specs.ReadExits.{name_lent, first_names_lent, second_names_lent, last_of}
+use Rattle.outs.proofs.ReadExits.{name_lent, first_names_lent, second_names_lent, last_of}
 use Rattle.frames.specs.Text.{text, decimal}
 use Rattle.frames.specs.Frame.{
   line_end,

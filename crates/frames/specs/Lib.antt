@@ -11,6 +11,3 @@ pub mod PieceLaws
 pub mod BlockLaws
 pub mod ReasonLaws
 pub mod CallLaws
-pub mod CleanLaws
-pub mod OrderLaws
-pub mod LineLaws

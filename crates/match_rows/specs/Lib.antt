@@ -1,6 +1,5 @@
 -- A row of a match: what the strip makes of it, and where it stands.
 pub mod MatchRow
-pub mod MatchRowLaws
 pub mod RowWorked
 pub mod Placed
 pub mod ExitLaws

@@ -1,6 +1,5 @@
 -- The player strip of 02, K6: what an event does to it, its laws, its bytes.
 pub mod Outs
-pub mod OutsLaws
 pub mod KeepLaws
 pub mod TwiceLaws
 pub mod NumberLaws
@@ -14,9 +13,6 @@ pub mod SideTests
 pub mod TestExits
 pub mod StripTests
 pub mod ClearLaws
-pub mod ReadExits
 pub mod MoveLaws
-pub mod TakeExits
-pub mod CallerLaws
 pub mod OutsWorked
 pub mod CodingWorked

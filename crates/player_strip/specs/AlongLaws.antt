@@ -11,11 +11,11 @@ use Rattle.words.specs.WordLaws.{Bytes, word32_lt}
 use Rattle.outs.specs.Outs.{Strip, given_took}
 use Rattle.outs.specs.Coding.{code_of, strip_of, is_strip}
 use Rattle.outs.specs.CodingLaws.{StripFits, strip-fits, strip-code, code-strip, code_is_strip}
-use Rattle.outs.specs.CallerLaws.{given-fits}
+use Rattle.outs.proofs.CallerLaws.{given-fits}
 use Rattle.state.specs.Rows.{Row, up_to}
 use Rattle.match_rows.specs.declared.Places.{Places}
 use Rattle.match_rows.specs.MatchRow.{row_number, row_took, row_numbers, after_rows}
-use Rattle.match_rows.specs.MatchRowLaws.{after_rows_none, after_rows_more, row_numbers_more, row_numbers_length}
+use Rattle.match_rows.proofs.MatchRowLaws.{after_rows_none, after_rows_more, row_numbers_more, row_numbers_length}
 use Rattle.match_rows.specs.Placed.{long_at, whole_at, name_at, placed_row, placed_rows}
 use Rattle.match_rows.specs.FourLaws.{placed_took}
 

@@ -13,7 +13,7 @@ use Rattle.rules.specs.Calls.{drop_call}
 use Rattle.ranges.specs.Passed.{PassedTests}
 use Rattle.outs.specs.Coding.{code_of, strip_of}
 use Rattle.match_rows.specs.MatchRow.{after_rows, row_numbers}
-use Rattle.match_rows.specs.MatchRowLaws.{row_numbers_length}
+use Rattle.match_rows.proofs.MatchRowLaws.{row_numbers_length}
 use Rattle.player_strip.specs.StripCall.{front_batch, read_refusal, ReadAnswer, read_call, take_leaves}
 use Rattle.player_strip.specs.FrontLaws.{few_rows, count-length, count_small}
 

@@ -17,7 +17,7 @@ use Rattle.outs.specs.Coding.{strip_bytes, code_of, strip_of, is_strip, new_faul
 use Rattle.outs.specs.CodingLaws.{code_is_strip}
 use Rattle.outs.specs.PieceLaws.{right_of}
 use Rattle.match_rows.specs.MatchRow.{after_rows, row_numbers}
-use Rattle.match_rows.specs.MatchRowLaws.{after_rows_append}
+use Rattle.match_rows.proofs.MatchRowLaws.{after_rows_append}
 use Rattle.strip_story.specs.Play.{Layer, court, read_ahead, Played, Strips}
 use Rattle.strip_story.proofs.PlayLaws.{Lawful, Coded, empty-coded, held_strip, none_ahead, Went, strips_went}
 use Rattle.strip_story.proofs.HeldLaws.{nothing_held, all-taken}

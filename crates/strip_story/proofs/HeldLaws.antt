@@ -11,7 +11,7 @@ use Rattle.history.specs.Law.{content}
 use Rattle.history.proofs.Counts.{empty_counts}
 use Rattle.outs.specs.Outs.{Strip}
 use Rattle.match_rows.specs.MatchRow.{is_match, row_number, row_took, after_rows}
-use Rattle.match_rows.specs.MatchRowLaws.{after_rows_append, after_rows_one, row-refused}
+use Rattle.match_rows.proofs.MatchRowLaws.{after_rows_append, after_rows_one, row-refused}
 use Rattle.strip_story.specs.StripAfter.{strip_after, match_kinds}
 use Rattle.strip_story.proofs.RowEventLaws.{after-batches}
 

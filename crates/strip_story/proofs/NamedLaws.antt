@@ -5,7 +5,8 @@ use Rattle.std.proofs.Common.{arith, lt-ltb}
 use Rattle.words.specs.WordLaws.{Bytes}
 use Rattle.state.specs.Rows.{Row}
 use Rattle.outs.specs.Outs.{Side, one, two, out, revive, Strip, empty, out_on, refusal_for, changed, with_side, accepted, took, is_name, in_range, side_of, what_of}
-use Rattle.outs.specs.KeepLaws.{Kept, after_kept}
+use Rattle.outs.specs.KeepLaws.{Kept}
+use Rattle.outs.proofs.KeepLaws.{after_kept}
 use Rattle.outs.specs.Coding.{are_names, word_bytes, last_code, side_code, code_of, last_fits}
 use Rattle.outs.specs.PieceLaws.{right_of}
 use Rattle.outs.specs.SideLaws.{names_none, names_append, names_drop}

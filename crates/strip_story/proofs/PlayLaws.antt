@@ -17,7 +17,7 @@ use Rattle.outs.specs.KeepLaws.{Kept, empty-kept}
 use Rattle.outs.specs.Coding.{code_of, strip_of}
 use Rattle.outs.specs.CodingLaws.{StripFits, code-strip, empty-fits}
 use Rattle.match_rows.specs.MatchRow.{after_rows, row_numbers}
-use Rattle.match_rows.specs.MatchRowLaws.{after_rows_none, after_rows_append, row_numbers_append, row_numbers_length}
+use Rattle.match_rows.proofs.MatchRowLaws.{after_rows_none, after_rows_append, row_numbers_append, row_numbers_length}
 use Rattle.player_strip.specs.StripCall.{front_batch}
 use Rattle.player_strip.specs.CallerLaws.{batch-some, batch-none}
 use Rattle.strip_story.proofs.NamedLaws.{Named, empty_named, rows_named, rows-kept, bytes_fit}

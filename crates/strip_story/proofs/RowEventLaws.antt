@@ -4,10 +4,11 @@ use Rattle.std.proofs.Common.{sym, ◌∙◌, ap}
 use mathlib.Core.List.{List, [], ◌∷◌, foldl}
 use Rattle.state.specs.Rows.{Row, joined}
 use Rattle.outs.specs.Outs.{Side, one, two, Event, Strip, empty, out_on, in_range, refusal_for, took, after, given_number, given_took, accepted_of, outs, revives}
-use Rattle.outs.specs.OutsLaws.{first_in_first_out}
+use Rattle.outs.proofs.OutsLaws.{first_in_first_out}
 use Rattle.outs.specs.TwiceLaws as twice
+use Rattle.outs.proofs.TwiceLaws as twice_laws
 use Rattle.match_rows.specs.MatchRow.{is_whole, side_in, event_in, player_in, row_number, row_took, after_rows}
-use Rattle.match_rows.specs.MatchRowLaws.{after_rows_none, after_rows_append}
+use Rattle.match_rows.proofs.MatchRowLaws.{after_rows_none, after_rows_append}
 use Rattle.strip_story.specs.StripAfter.{strip_after, accepted_rows, is_event, row_event, events_of}
 
 -- batch by batch is row by row
@@ -79,5 +80,5 @@ pub rows-twice : (s : Strip) (rows : List Row) {n : ℕ} → twice.Rise n (event
 rows-twice s rows r =
     after_events (after_rows s rows) rows
     ∙ ap (λ (t : Strip). after t (events_of rows)) (after_events s rows)
-    ∙ twice.read_twice s (events_of rows) r
+    ∙ twice_laws.read_twice s (events_of rows) r
     ∙ sym (after_events s rows)

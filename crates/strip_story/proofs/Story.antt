@@ -13,7 +13,8 @@ use Rattle.history.proofs.Columns.{columns_asked, kinds-asked}
 use Rattle.history.proofs.RowReads.{last-bytes}
 use Rattle.outs.specs.Outs.{Side, empty, out_on, outs, revives}
 use Rattle.outs.specs.KeepLaws.{Distinct, empty-kept}
-use Rattle.outs.specs.TwiceLaws.{Rise, Above, accepted_rise}
+use Rattle.outs.specs.TwiceLaws.{Rise, Above}
+use Rattle.outs.proofs.TwiceLaws.{accepted_rise}
 use Rattle.outs.specs.Coding.{code_of}
 use Rattle.outs.specs.SideLaws.{names_at, name_low, name_high}
 use Rattle.match_rows.specs.MatchRow.{is_match, row_number, after_rows}

@@ -2,7 +2,7 @@
 use borrow.Author.Rules.{rules}
 use native.Mathlib.Omega.{arith}
 use Rattle.outs.specs.CodingLaws.{strip-length}
-use Rattle.outs.specs.ReadExits.{first_lent, second_lent}
+use Rattle.outs.proofs.ReadExits.{first_lent, second_lent}
 use Rattle.frames.specs.BlockLaws.{strip-laid}
 use Rattle.frames.proofs.put_strip.Goals as goal
 

@@ -1,7 +1,7 @@
 -- `outs::accept` meets its contract.
 use borrow.Author.Rules.{rules}
-use Rattle.outs.specs.TakeExits.{first-asked, second_asked, took-first, took_second}
-use Rattle.outs.specs.ReadExits.{first_lent, second_lent}
+use Rattle.outs.proofs.TakeExits.{first-asked, second_asked, took-first, took_second}
+use Rattle.outs.proofs.ReadExits.{first_lent, second_lent}
 use Rattle.outs.proofs.accept.Goals as goal
 
 pub change_side-requires : goal.change_side-requires

@@ -1,6 +1,6 @@
 -- `outs::change_side` meets its contract.
 use borrow.Author.Rules.{rules}
-use Rattle.outs.specs.TakeExits.{out_room, somebody, changed-out, changed-back}
+use Rattle.outs.proofs.TakeExits.{out_room, somebody, changed-out, changed-back}
 use Rattle.outs.proofs.change_side.Goals as goal
 
 pub go_out-requires : goal.go_out-requires

@@ -1,6 +1,6 @@
 -- `outs::is_above` meets its contract.
 use borrow.Author.Rules.{rules}
-use Rattle.outs.specs.ReadExits.{above_none, above_some}
+use Rattle.outs.proofs.ReadExits.{above_none, above_some}
 use Rattle.outs.proofs.is_above.Goals as goal
 
 pub returns-then-get32-eq0 : goal.returns-then-get32-eq0

@@ -1,7 +1,7 @@
 -- `outs::is_out` meets its contract.
 use Prim.Native.Nat.{◌-◌}
 use borrow.Author.Rules.{rules}
-use Rattle.outs.specs.ReadExits.{below-seven, word_small, out_none, out-more, out_found, out-all}
+use Rattle.outs.proofs.ReadExits.{below-seven, word_small, out_none, out-more, out_found, out-all}
 use Rattle.outs.proofs.is_out.Goals as goal
 
 pub loop-i-init : goal.loop-i-init

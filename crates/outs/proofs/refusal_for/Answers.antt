@@ -1,6 +1,6 @@
 -- `outs::refusal_for` meets its contract.
 use borrow.Author.Rules.{rules}
-use Rattle.outs.specs.ReadExits.{first_lent, second_lent, number-first, number_second, number_old}
+use Rattle.outs.proofs.ReadExits.{first_lent, second_lent, number-first, number_second, number_old}
 use Rattle.outs.proofs.refusal_for.Goals as goal
 
 pub side_refusal-requires : goal.side_refusal-requires

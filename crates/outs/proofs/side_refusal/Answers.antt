@@ -1,6 +1,6 @@
 -- `outs::side_refusal` meets its contract.
 use borrow.Author.Rules.{rules}
-use Rattle.outs.specs.ReadExits.{side_out_already, side_goes_out, side_eighth, side_nobody, side_comes_back}
+use Rattle.outs.proofs.ReadExits.{side_out_already, side_goes_out, side_eighth, side_nobody, side_comes_back}
 use Rattle.outs.proofs.side_refusal.Goals as goal
 
 pub returns-then-is_out : goal.returns-then-is_out

@@ -1,6 +1,6 @@
 -- `outs::take_coded` meets its contract.
 use borrow.Author.Rules.{rules}
-use Rattle.outs.specs.TakeExits.{range_name, not_refused, given-accepted, given-refused, given_out_of_range, leaves-taken, leaves-refused, leaves_out_of_range}
+use Rattle.outs.proofs.TakeExits.{range_name, not_refused, given-accepted, given-refused, given_out_of_range, leaves-taken, leaves-refused, leaves_out_of_range}
 use Rattle.outs.specs.CodingLaws.{strip-length}
 use Rattle.outs.proofs.take_coded.Goals as goal
 

@@ -1,6 +1,6 @@
 -- `outs::take_event` meets its contract.
 use borrow.Author.Rules.{rules}
-use Rattle.outs.specs.TakeExits.{any_answer, any_leaves, any_fault, any_stays}
+use Rattle.outs.proofs.TakeExits.{any_answer, any_leaves, any_fault, any_stays}
 use Rattle.outs.specs.StripTests.{fault-says}
 use Rattle.outs.proofs.take_event.Goals as goal
 

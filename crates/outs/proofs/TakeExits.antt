@@ -12,14 +12,14 @@ use Rattle.words.specs.WordLaws.{length-with_word32}
 use Rattle.words.specs.Run.{read, put}
 use Rattle.words.specs.RunLaws.{length-read}
 use Rattle.outs.specs.Outs.{What, revive, Strip, refusal_on, refusal_for, changed, accepted, took, is_name, in_range, side_of, what_of, event_of, given_number, given_took}
-use Rattle.outs.specs.OutsLaws.{took-accepted, took-refused, accepted_on}
+use Rattle.outs.proofs.OutsLaws.{took-accepted, took-refused, accepted_on}
 use Rattle.outs.specs.KeepLaws.{out-seven}
 use Rattle.outs.specs.Coding.{strip_bytes, side_bytes, word_bytes, side_code, last_code, code_of, names_in, strip_of, is_side, is_strip, strip_fault, event_answer, event_leaves}
 use Rattle.outs.specs.PieceLaws.{right_of, read_add, read_all, read-rest, put-at, length_word, word_put}
 use Rattle.outs.specs.SideLaws.{coded-count}
 use Rattle.outs.specs.CodingLaws.{strip-code, strip-length, first_is, second_is}
 use Rattle.outs.specs.StripTests.{fault-none}
-use Rattle.outs.specs.ReadExits.{what_out, what_revive, first_names_lent, second_names_lent, side_one, side_two}
+use Rattle.outs.proofs.ReadExits.{what_out, what_revive, first_names_lent, second_names_lent, side_one, side_two}
 
 -- ---- the last number
 

@@ -2,13 +2,13 @@
 use Rattle.std.specs.Prelude.{ℕ, ◌<◌, ◌≡◌, refl, Bool, true, false, cond, List, [], ◌∷◌, eqb, length}
 use Rattle.std.proofs.Common.{◌∙◌, ap, eqb-true, eq-eqb}
 use Rattle.outs.specs.Outs.{Side, one, two, What, out, revive, Event, Strip, empty, out_on, refusal_on, refusal_for, changed, with_side, accepted, took, after, is_name, in_range, what_of, event_of, given_took}
-use Rattle.outs.specs.OutsLaws.{accepted_on}
+use Rattle.outs.proofs.OutsLaws.{accepted_on}
 use Rattle.outs.specs.KeepLaws.{changed-seven}
 use Rattle.outs.specs.Coding.{strip_bytes, code_of, strip_of, is_strip, new_leaves, event_leaves}
 use Rattle.outs.specs.SideLaws.{SideFits, names_append, names_drop}
 use Rattle.outs.specs.CodingLaws.{StripFits, strip-fits, code-strip, code_is_strip, empty-fits}
 use Rattle.outs.specs.StripTests.{some_fits}
-use Rattle.outs.specs.TakeExits.{range_name}
+use Rattle.outs.proofs.TakeExits.{range_name}
 
 -- what goes out has a name of 1 to 64 bytes
 pub data WhatFits : What → Type 0 where

@@ -4,7 +4,7 @@ use Rattle.std.proofs.Common.{◌∙◌, ap}
 use mathlib.Core.List.{List, [], ◌∷◌, ◌++◌, foldl-append}
 use Rattle.state.specs.Rows.{Row}
 use Rattle.outs.specs.Outs.{Strip, in_range, refusal_for, event_of, took, given_number, given_took}
-use Rattle.outs.specs.OutsLaws.{took-refused}
+use Rattle.outs.proofs.OutsLaws.{took-refused}
 use Rattle.match_rows.specs.MatchRow.{is_whole, number_in, side_in, event_in, player_in, row_number, row_took, after_rows, row_numbers}
 
 -- ---- rows in order

@@ -1,0 +1,2 @@
+-- Theorems that no file of specs/ cites.
+pub mod MatchRowLaws
