@@ -18,7 +18,8 @@ use Rattle.invariant.proofs.Calls.FinishAfter.{QueuesBuffered, finished-after}
 use Rattle.invariant.proofs.Calls.PushAfter.{RowsBehind, refusals, pushed-after}
 use Rattle.invariant.proofs.Calls.Tested.{between-tested}
 use Rattle.invariant.specs.Calls.MemoryAfter.{SameRows}
-use Rattle.invariant.proofs.Calls.MemoryAfter.{same_self, let_go_same, register_same}
+use Rattle.invariant.proofs.Calls.MemoryAfter.{same_self, register_same}
+use Rattle.invariant.proofs.Calls.LetGoAfter.{let_go_same}
 use Rattle.invariant.proofs.Calls.LimitAfter.{limit_same}
 use Rattle.invariant.proofs.Calls.DropAfter.{drop-between, drop-batches, drop-rows, drop-bytes}
 use Rattle.history.specs.Call.{Call, push, finish, drop, register, let_go, limit, read, if_done, front, step}

@@ -12,3 +12,4 @@ pub mod QueueAfter
 pub mod SetUpAfter
 pub mod Tested
 pub mod WholeAfter
+pub mod LetGoAfter

@@ -15,3 +15,4 @@ pub mod SpareMoves
 pub mod Stored
 pub mod ValueMoves
 pub mod WholeMoves
+pub mod RaisedMoves

@@ -133,14 +133,14 @@ module _ {w : World} (g : Between w) (pool books : List ℕ) (f : Framed 0 (4 + 
 -- ---- letting go
 
 module _ {w : World} (g : Between w) (i : ℕ) (h : is_held w.books i ≡ true) where
-  below : i < w.state.numbers
+  pub below : i < w.state.numbers
   below = omega (arith, (held_says w.books i h).0, g.holding.run.used)
 
-  changed : Changed w.books (released w.books i) w.state.numbers i (or_free (hold_as (entry_of w.books i) 0))
+  pub changed : Changed w.books (released w.books i) w.state.numbers i (or_free (hold_as (entry_of w.books i) 0))
   changed = released-changed i (sound_roomy g.holding.sound) below
 
   -- what is listed stays, whoever held it
-  listed_stands : (k : ℕ) → k < w.state.numbers → 1 ≤ listings w k → is_free (entry_of w.books k) ≡ false → Stands w (in_memory w w.pool (released w.books i)) k
+  pub listed_stands : (k : ℕ) → k < w.state.numbers → 1 ≤ listings w k → is_free (entry_of w.books k) ≡ false → Stands w (in_memory w w.pool (released w.books i)) k
   listed_stands k l n e = go (ℕ_discrete k i)
     where
       go : Dec (k ≡ i) → Stands w (in_memory w w.pool (released w.books i)) k
@@ -149,35 +149,6 @@ module _ {w : World} (g : Between w) (i : ℕ) (h : is_held w.books i ≡ true) 
           let m : 0 < listings w i = rw d at n in
           let f : is_free (entry_of (released w.books i) i) ≡ false = released_live i g.holding.sound below m in
           rw d (record { live = f; begins = begins_is (released_filled_same w.pool i g.holding.sound below f) })
-
-  let_go_hold : (e : Entry) → (or_free (hold_as e 0)).hold ≡ 0
-  unfolding or_free
-  let_go_hold e = by_free (is_free (hold_as e 0))
-    where
-      by_free : (b : Bool) → (cond b no_entry (hold_as e 0)).hold ≡ 0
-      by_free true = refl
-      by_free false = refl
-
-  unheld_here : Unheld w.state (released w.books i)
-  unheld_here = unheld_on g.holding w.state (released w.books i) (λ c k o. o) (λ k l n z. go k z (ℕ_discrete k i))
-    where
-      go : (k : ℕ) → (entry_of w.books k).hold ≡ 0 → Dec (k ≡ i) → (entry_of (released w.books i) k).hold ≡ 0
-      go k z (yes d) = rw d (ap (λ (e : Entry). e.hold) changed.same ∙ let_go_hold (entry_of w.books i))
-      go k z (no d) = ap (λ (e : Entry). e.hold) (changed.other k d) ∙ z
-
-  pub released-same : SameRows w (in_books w (released w.books i))
-  released-same =
-      memory-same g w.pool (released w.books i) changed.framed refl (released_sound i g.holding.sound below) (λ slot c j p q l.
-      listed_stands (number_at w slot c j) (number-below g.holding slot c j p q l) (listed_counted w slot c j p q l) (number_live g.holding slot c j p q l))
-      unheld_here
-
-pub let_go_same : {w : World} → Between w → (i : ℕ) → SameRows w (in_books w (let_go w.books i).books)
-unfolding let_go
-let_go_same {w} g i = go (is_held w.books i) refl
-  where
-    go : (b : Bool) → is_held w.books i ≡ b → SameRows w (in_books w (cond {A = Gone} b (record { answer = 0; books = released w.books i }) (record { answer = 13; books = w.books })).books)
-    go true h = released-same g i h
-    go false h = same_self g
 
 -- a number that is not let go has its entry as it was
 pub let_go_other : {w : World} → Between w → (i k : ℕ) → k ≢ i → entry_of (let_go w.books i).books k ≡ entry_of w.books k

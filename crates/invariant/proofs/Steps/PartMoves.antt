@@ -22,7 +22,7 @@ use Rattle.invariant.proofs.Steps.SpareMoves.{spared_ext, adds_after}
 use Rattle.invariant.proofs.Steps.MoveLaws.{more_here, more_other, moves_refl, moves_trans, sourced_on, batch_on, rows-filling}
 use Rattle.invariant.proofs.Steps.CopyMoves.{bits_moves, bits-laid}
 use Rattle.invariant.proofs.Steps.ValueMoves.{values_extends}
-use Rattle.invariant.proofs.Steps.RaiseMoves.{part_attached_extends}
+use Rattle.invariant.proofs.Steps.RaisedMoves.{part_attached_extends}
 use Rattle.invariant.proofs.Steps.PartCompact.{moves_ext, part_compacted_extends}
 
 abbrev rooms : List ℕ

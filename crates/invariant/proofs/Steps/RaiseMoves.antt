@@ -1,42 +1,31 @@
--- A part of a column attached: the open block closed, the list attached, and the views raised behind it.
-use Rattle.std.specs.Prelude.{ℕ, ◌+◌, ◌*◌, ◌≤◌, ◌<◌, ◌^◌, ◌≡◌, true, List, [], ◌∷◌, length, leb}
-use Rattle.std.proofs.Math.Path.{refl, ap}
-use Rattle.std.proofs.Common.{sym, ◌∙◌, true≢false, leb-true}
+-- Views that are raised behind an attached list have words of 32 bits; rows put by a later step, views put behind a column.
+use Rattle.std.specs.Prelude.{ℕ, ◌+◌, ◌*◌, ◌≤◌, ◌<◌, ◌^◌, ◌≡◌, true, List, length}
+use Rattle.std.proofs.Math.Path.{ap}
+use Rattle.std.proofs.Common.{sym, ◌∙◌}
 use native.Mathlib.Omega.{arith}
 use Rattle.std.proofs.Math.Decide.{dec_lt}
 use Rattle.words.specs.Frame.{Framed}
-use Rattle.sound.specs.Sound.{filled_bytes}
 use Rattle.views.specs.declared.View.{View}
 use Rattle.views.specs.View.{view_of, raised_by}
 use Rattle.views.specs.StoreLaws.{ViewWords, view-fits}
-use Rattle.views.specs.ShowLaws.{keeps_raised, raise_inline, raise_long, long-says}
+use Rattle.views.specs.ShowLaws.{raise_inline, raise_long, long-says}
 use Rattle.state.specs.World.{World}
-use Rattle.state.specs.Layout.{width_of, is_views, cell_place, list_length}
+use Rattle.state.specs.Layout.{width_of, is_views, cell_place}
 use Rattle.state.proofs.LayoutLaws.{views_width, cell_in}
-use Rattle.state.specs.Rows.{listed_at, buffer_at, slot_cell}
-use Rattle.rules.specs.Batch.{Batch, record_of, listed_number, bytes_listed, listed_bytes, row_view}
+use Rattle.state.specs.Rows.{slot_cell}
+use Rattle.rules.specs.Batch.{Batch, record_of, listed_number, listed_bytes, row_view}
 use Rattle.rules.specs.Steps.{in_slots}
 use Rattle.rules.specs.Copies.{views_put}
 use Rattle.rules.specs.CopyLaws.{views_framed, views_read}
-use Rattle.rules.specs.Views.{span, filling, closed, list_attached, views_raised, part_attached}
-use Rattle.rules.specs.Held.{Among, one_of, Holds, held, refused, holds_cond}
-use Rattle.rules.specs.Stays.{Beside}
-use Rattle.rules.specs.SameLaws.{same_views}
-use Rattle.push_safety.specs.Run.{ColumnReads}
+use Rattle.rules.specs.Views.{filling}
 use Rattle.push_safety.specs.TestedLaws.{bounds_say}
-use Rattle.push_safety.specs.BlockGoes.{closed-shut}
 use Rattle.invariant.specs.Holding.{reach, number_at, Holding}
 use Rattle.invariant.specs.ByteLaws.{bytes_views}
-use Rattle.invariant.proofs.Rests.{buffer_number_lem}
 use Rattle.invariant.proofs.CountLaws.{reach_most}
-use Rattle.invariant.specs.Steps.Moves.{Moves, BitsStill, ReadableBatch, Laid, Extends}
-use Rattle.invariant.proofs.Steps.MoveLaws.{moves_trans, laid_on, sourced_on, batch_on, still_trans}
-use Rattle.invariant.proofs.SlotLaws.{slots_reach, slots_number}
-use Rattle.invariant.proofs.Steps.CopyMoves.{cells_word, cells_still, cells_moves}
-use Rattle.invariant.proofs.Steps.Stored.{Stored, stored_extends}
+use Rattle.invariant.specs.Steps.Moves.{Moves, BitsStill, ReadableBatch, Extends}
+use Rattle.invariant.proofs.Steps.MoveLaws.{moves_trans, batch_on, still_trans}
+use Rattle.invariant.proofs.Steps.CopyMoves.{cells_still, cells_moves}
 use Rattle.invariant.proofs.Steps.ValueMoves.{cell_add}
-use Rattle.invariant.proofs.Steps.CloseMoves.{closed_moves, closed_still}
-use Rattle.invariant.proofs.Steps.AttachMoves.{attached_moves, attached_still, attached_reach, attached_number}
 
 -- ---- rows put by a later step
 
@@ -62,7 +51,7 @@ module _ {w : World} {ext : ℕ → ℕ} (b : Batch) (c from n : ℕ) (a : Holdi
   width : width_of w.state c ≡ 16
   width = views_width w.state c y
 
-  put_framed : Framed to (to + n * width_of w.state c) w.slots put
+  pub put_framed : Framed to (to + n * width_of w.state c) w.slots put
   put_framed = rw width (views_framed f w.slots to n)
 
   room : to + n * 16 ≤ length w.slots
@@ -91,124 +80,16 @@ raised-fits k v f g = go (dec_lt 12 v.length)
     go (no d) = rw (← (raise_inline k v (omega arith))) f
 
 module _ {w : World} {ext : ℕ → ℕ} (b : Batch) (c k from n : ℕ) (a : Holding w ext) (x : ReadableBatch w b) (q : c < w.state.columns) (y : is_views w.state c ≡ true) (h : ext c + n ≤ w.state.rows.0) (m : from + n ≤ b.rows) (r : reach w w.state.place c ≡ k + (record_of b c).count) (numbers : (i : ℕ) → i < (record_of b c).count → number_at w w.state.place c (k + i) ≡ listed_number b c i) where
-  abbrev raised : ℕ → View
+  abbrev pub raised : ℕ → View
   raised i = raised_by k (row_view w b c (from + i))
 
   abbrev place : ℕ
   place = w.state.place
 
-  fits : (j : ℕ) → j < n → ViewWords (raised j)
+  pub fits : (j : ℕ) → j < n → ViewWords (raised j)
   unfolding row_view
   fits j l =
       raised-fits k (row_view w b c (from + j)) (view-fits b.body _ x.bytes)
       (λ d.
       let p = long-says (row_view w b c (from + j)) (listed_bytes w b c) (record_of b c).count d (x.valid c (from + j) q y (omega arith)) in
       omega (arith, p.below, r, reach_most w place c a.run a.run.fit.place q, (bounds_say w.state a.run.fit.bounds).lists))
-
-  abbrev v : World
-  v = in_slots w (put b c from n a q y h raised fits)
-
-  raised_is : views_raised w b k (span c (ext c) from n) ≡ v
-  unfolding views_raised
-  raised_is = refl
-
-  v_moves : Moves w ext v ext
-  v_moves = put_moves b c from n a q y h raised fits
-
-  -- the buffer at index k + i is that of the list
-  buffer : (i : ℕ) → i < (record_of b c).count → buffer_at v place c (i + k) ≡ listed_bytes w b c i
-  unfolding listed_bytes bytes_listed listed_number
-  buffer i l =
-      let e : i + k ≡ k + i = omega arith in
-      let g : i + k < reach v place c = omega (arith, slots_reach w (put b c from n a q y h raised fits) place c, r) in
-      let z : number_at v place c (k + i) ≡ number_at w place c (k + i) = number_on (k + i) (omega (arith, r)) in
-      buffer_number_lem v place c (i + k) g ∙ ap (filled_bytes w.books w.pool) (ap (number_at v place c) e ∙ z ∙ numbers i l)
-    where
-      number_on : (i : ℕ) → i < reach w place c → number_at v place c i ≡ number_at w place c i
-      number_on i l = slots_number w (put b c from n a q y h raised fits) place c i (λ d. put-entry i d)
-        where
-          put-entry : (i : ℕ) → i < list_length w place c → listed_at v place c i ≡ listed_at w place c i
-          put-entry i d = cells_word (put b c from n a q y h raised fits) c (ext c) n a q (omega arith) h (put_framed b c from n a q y h raised fits) place c i a.run.fit.place q d
-
-  stored : (j : ℕ) → j < n → Stored w v b c (from + j) (ext c + j)
-  stored j l =
-      record {
-        shown = λ z.
-            rw (put_view b c from n a q y h raised fits j l)
-            (keeps_raised (row_view w b c (from + j)) (listed_bytes w b c) (record_of b c).count (buffer_at v place c) (reach v place c) k (x.valid c (from + j) q y (omega arith))
-            (omega (arith, slots_reach w (put b c from n a q y h raised fits) place c, r))
-            buffer);
-        plain = λ z. absurd (true≢false (sym y ∙ z));
-      }
-
-  pub raised_extends : Laid w b c (ext c) from n → Extends w ext b c from n (views_raised w b k (span c (ext c) from n))
-  raised_extends l =
-      rw raised_is
-      (stored_extends b c from n v_moves q h (laid_on b c (ext c) from n a.run v_moves.beside (put_still b c from n a q y h raised fits) q h l) stored (put_still b c from n a q y h raised fits))
-
--- ---- the part
-
-module _ {w : World} {ext : ℕ → ℕ} (b : Batch) (c from n : ℕ) (a : Holding w ext) (x : ReadableBatch w b) (q : c < w.state.columns) (y : is_views w.state c ≡ true) (h : ext c + n ≤ w.state.rows.0) (m : from + n ≤ b.rows) (l : Laid w b c (ext c) from n) where
-  abbrev u : World
-  u = closed w c
-
-  shut_moves : Moves w ext u ext
-  shut_moves = closed_moves c a q y
-
-  attached_extends : list_length u (filling w) c + (record_of b c).count ≤ w.state.lists → Extends w ext b c from n (views_raised (list_attached u b c) b (list_length u (filling w) c) (span c (ext c) from n))
-  attached_extends t =
-      extends_after a x q m (moves_trans shut_moves mid) (still_trans e (closed_still c a q y) mid_still)
-      (rw len (raised_extends b c (list_length u u.state.place c) from n mid.holding (sourced_on (sourced_on x shut_moves a.run) mid shut_moves.holding.run) q'' y'' h'' m reach_is number_is laid''))
-    where
-      e : Beside w u
-      e = shut_moves.beside
-
-      len : list_length u (filling w) c ≡ list_length u u.state.place c
-      len = ap (λ (s : ℕ). list_length u s c) (sym e.place)
-
-      q' : c < u.state.columns
-      q' = omega (arith, e.set_up.columns)
-
-      y' : is_views u.state c ≡ true
-      y' = same_views e.set_up c ∙ y
-
-      t' : list_length u u.state.place c + (record_of b c).count ≤ u.state.lists
-      t' = omega (arith, e.set_up.lists, len)
-
-      reads : ColumnReads u b c
-      reads = (sourced_on x shut_moves a.run).reads.columns c q'
-
-      mid : Moves u ext (list_attached u b c) ext
-      mid = attached_moves b c shut_moves.holding reads q' y' (closed-shut w c y) t' x.bytes
-
-      mid_still : BitsStill u (list_attached u b c)
-      mid_still = attached_still b c shut_moves.holding reads q' y' (closed-shut w c y) t'
-
-      q'' : c < (list_attached u b c).state.columns
-      q'' = omega (arith, q', mid.beside.set_up.columns)
-
-      y'' : is_views (list_attached u b c).state c ≡ true
-      y'' = same_views mid.beside.set_up c ∙ y'
-
-      h'' : ext c + n ≤ (list_attached u b c).state.rows.0
-      h'' = omega (arith, ap (λ r. r.0) mid.beside.set_up.rows, ap (λ r. r.0) e.set_up.rows)
-
-      reach_is : reach (list_attached u b c) (list_attached u b c).state.place c ≡ list_length u u.state.place c + (record_of b c).count
-      reach_is = ap (λ (s : ℕ). reach (list_attached u b c) s c) mid.beside.place ∙ attached_reach b c shut_moves.holding reads q' y' (closed-shut w c y) t'
-
-      number_is : (i : ℕ) → i < (record_of b c).count → number_at (list_attached u b c) (list_attached u b c).state.place c (list_length u u.state.place c + i) ≡ listed_number b c i
-      number_is i z =
-          ap (λ (s : ℕ). number_at (list_attached u b c) s c (list_length u u.state.place c + i)) mid.beside.place
-          ∙ attached_number b c shut_moves.holding reads q' y' (closed-shut w c y) t' i z
-
-      laid'' : Laid (list_attached u b c) b c (ext c) from n
-      laid'' =
-          laid_on b c (ext c) from n shut_moves.holding.run mid.beside mid_still q' (omega (arith, ap (λ r. r.0) e.set_up.rows))
-          (laid_on b c (ext c) from n a.run e (closed_still c a q y) q h l)
-
-  pub part_attached_extends : Holds (Extends w ext b c from n) (Among (10 ∷ [])) (part_attached w b (span c (ext c) from n))
-  unfolding part_attached
-  part_attached_extends =
-      holds_cond (leb (list_length u (filling w) c + (record_of b c).count) w.state.lists)
-      (λ t. held (attached_extends (leb-true _ _ t)))
-      (λ t. refused (one_of (10 ∷ []) 10 tt))
