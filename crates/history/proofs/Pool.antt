@@ -72,7 +72,6 @@ letting_go_pool w i = go (ℕ_discrete (tested w) 0)
     go (no p) = ap (λ r. r.world.pool) (let_go_tested w i p)
     go (yes p) = ap (λ r. r.world.pool) (let_go_steps w i p)
 
-
 -- ---- a buffer that the caller holds keeps its bytes until it is let go
 
 finish_held : {w : World} (k : ℕ) (r : Res) → Between w → is_held w.books k ≡ true → Holds (QueuesBuffered w) (Among (9 ∷ [])) r → KeepsHeld w (or_old w r).world k

@@ -40,7 +40,6 @@ module _ {w : World} (g : Between w) (i : ℕ) (h : is_held w.books i ≡ true) 
       (listed_stands {w = w} g i h) (number_at w slot c j) (number-below g.holding slot c j p q l) (listed_counted w slot c j p q l) (number_live g.holding slot c j p q l))
       unheld_here
 
-
 pub let_go_same : {w : World} → Between w → (i : ℕ) → SameRows w (in_books w (let_go w.books i).books)
 unfolding let_go
 let_go_same {w} g i = go (is_held w.books i) refl
