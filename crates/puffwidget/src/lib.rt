@@ -2,10 +2,10 @@
 // states its clauses again; what the call does, and its proof, stand in the library.
 #![tactic(auto)]
 
-mod batches;
-mod buffers;
-mod front;
-mod reads;
-mod set_up;
-mod state;
-mod strip;
+mod batch_calls;
+mod buffer_calls;
+mod front_calls;
+mod read_calls;
+mod set_up_calls;
+mod state_calls;
+mod strip_calls;
