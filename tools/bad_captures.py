@@ -1,11 +1,7 @@
 #!/usr/bin/env python3
 """Plays captures that are cut, too long or odd with the programs `court` and `strip`, and holds what a person sees: the lines (of `court`), the fault,
-<<<<<<< HEAD
 the exit status. usage: bad_captures.py (after `rt ci`, or `rt run < /dev/null` in crates/court and crates/strip). Exit status 1 where one is not as it
 should be."""
-=======
-the exit status. usage: bad_captures.py (after `rt ci`, which builds the two). Exit status 1 where one is not as it should be."""
->>>>>>> 3d6a7a7faf81f249e22472ec3b03c43bcafbde30
 import os
 import struct
 import subprocess

@@ -3,6 +3,14 @@
 use crate::Came;
 use std::io;
 
+// Text to standard error, a character a byte.
+fn write(rt: &impl Eprint, text: &[u8]) -> io::Result<()> {
+    for b in text {
+        eprint!(rt; "{}", char::from(*b))?;
+    }
+    Ok(())
+}
+
 // The input ended within a header's 48 bytes. Between two calls that is as it should be; not before the first, nor where a read fails: that
 // is told, and answered.
 pub fn ended(rt: &impl Eprint, number: u64, came: Came) -> io::Result<bool> {
@@ -57,14 +65,14 @@ pub fn brings_too_much(
 pub fn lends_too_much(
     rt: &impl Eprint,
     number: u64,
-    memory: &str,
+    memory: &[u8],
     lent: usize,
     room: usize,
 ) -> io::Result<bool> {
     if room < lent {
-        eprintln!(rt;
-            "capture: call {number} lends {lent} bytes of {memory}, and this program has room for {room}"
-        )?;
+        eprint!(rt; "capture: call {number} lends {lent} bytes of ")?;
+        write(rt, memory)?;
+        eprintln!(rt; ", and this program has room for {room}")?;
         return Ok(true);
     }
     Ok(false)

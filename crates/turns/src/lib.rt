@@ -112,13 +112,13 @@ fn next(number: u64, counts: bool) -> u64 {
 // Whether there is room for the memories that a call lends; where there is not, that is told. An error is one of standard error.
 pub fn has_room(rt: &impl Eprint, number: u64, room: Lent, f: Fetched) -> io::Result<bool> {
     let lent = capture::lent_after(none_lent(), f);
-    if capture::lends_too_much(rt, number, "slots", lent.slots, room.slots)? {
+    if capture::lends_too_much(rt, number, b"slots", lent.slots, room.slots)? {
         return Ok(false);
     }
-    if capture::lends_too_much(rt, number, "the pool", lent.pool, room.pool)? {
+    if capture::lends_too_much(rt, number, b"the pool", lent.pool, room.pool)? {
         return Ok(false);
     }
-    let too_much = capture::lends_too_much(rt, number, "books", lent.books, room.books)?;
+    let too_much = capture::lends_too_much(rt, number, b"books", lent.books, room.books)?;
     Ok(!too_much)
 }
 
