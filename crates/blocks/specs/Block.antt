@@ -1,6 +1,6 @@
 -- The size of a block, per view column, kept across batches: 01's paragraph "Block size", a definition a sentence.
 use Rattle.std.specs.Prelude.{ℕ, ◌*◌, ◌^◌, max, Bool, true, cond, List, [], ◌∷◌, ltb, leb}
-use Rattle.std.proofs.Math.Option.{Option, none, some}
+use Rattle.std.specs.Prelude.{Option, None, Some}
 use Rattle.search.specs.First.{first}
 use Rattle.counts.specs.declared.ByteSum.{ByteSum}
 use Rattle.blocks.specs.declared.BufferSource.{BufferSource}
@@ -31,8 +31,8 @@ unfoldable pub enough : ℕ → ℕ → ℕ → Bool
 enough size min j = cond (ltb min (size * 2 ^ j)) true (leb top (size * 2 ^ j))
 
 abbrev pub or_none : Option ℕ → ℕ
-or_none none = 0
-or_none (some j) = j
+or_none None = 0
+or_none (Some j) = j
 
 -- the fewest doublings that are enough (20 always are, of a size that is not 0)
 unfoldable pub doublings : ℕ → ℕ → ℕ

@@ -1,7 +1,7 @@
 -- The laws of block sizes: the loop a turn at a time, and the sizes that a history of asks keeps.
 use Rattle.std.specs.Prelude.{ℕ, zero, suc, ◌+◌, ◌*◌, ◌-◌, ◌^◌, ◌≤◌, ◌<◌, max, ◌≡◌, refl, ◌≢◌, Bool, true, false, cond, List, [], ◌∷◌, ltb, leb}
 use Rattle.std.proofs.Common.{sym, ap, ◌∙◌, arith, pow-suc, pow-add, ltb-true, ltb-false, leb-true, leb-false, le-ltb, lt-ltb, le-leb}
-use Rattle.std.proofs.Math.Option.{Option, none, some}
+use Rattle.std.specs.Prelude.{Option, None, Some}
 use Rattle.std.proofs.Math.Decide.{dec_lt}
 use Rattle.std.proofs.Math.Nat.{pow-le-pow_right}
 use Rattle.std.proofs.lemmas.Bool.{lt-leb}
@@ -41,11 +41,11 @@ unfolding doublings
 doublings_lowest size min h = go (first (enough size min) 21) refl
   where
     go : (o : Option ℕ) → first (enough size min) 21 ≡ o → Lowest (enough size min) 21 (or_none (first (enough size min) 21))
-    go none q =
+    go None q =
         let e : enough size min 20 ≡ true = enough-top size min 20 (omega arith) in
         let n : enough size min 20 ≡ false = nothing-says (enough size min) 21 q 20 (omega arith) in
         let w : ◌≡◌ {A = ℕ} 0 1 = cc in absurd (omega arith)
-    go (some j) q = rw q (at-says (enough size min) 21 j q)
+    go (Some j) q = rw q (at-says (enough size min) 21 j q)
 
 doublings_is : (size min j : ℕ) → Lowest (enough size min) 21 j → doublings size min ≡ j
 unfolding doublings

@@ -4,7 +4,7 @@ use Rattle.std.proofs.Math.Path.{◌≡◌, refl, sym, ap}
 use Rattle.std.proofs.Common.{◌∙◌, add-one}
 use Rattle.std.specs.Prelude.{Bool, ◌&&◌, List, length, ltb}
 use Rattle.std.proofs.Math.Bool.{true, false, cond, not, true≢false}
-use Rattle.std.proofs.Math.Option.{Option, none, some}
+use Rattle.std.specs.Prelude.{Option, None, Some}
 use native.Mathlib.Omega.{arith}
 use Rattle.std.proofs.Math.Decide.{dec_lt}
 use borrow.Author.Tests.{lt-ltb, le-ltb, not-true}
@@ -15,7 +15,6 @@ use Rattle.search.specs.Every.{every, every-says, every_is}
 use Rattle.words.specs.Word.{word32}
 use Rattle.words.specs.WordLaws.{Bytes}
 use Rattle.books.specs.declared.Entry.{Entry}
-use Rattle.books.specs.declared.Gap.{Gap}
 use Rattle.books.specs.Entry.{used_of, entry_of, is_free, share_byte, occupies}
 use Rattle.books.specs.EntryLaws.{EntryWords, entry-fits, Shares, shares_says, Occupies, occupies-says, occupies_is}
 use Rattle.books.specs.Search.{as_gap, clear_at, lowest_gap, past_entry, swept, swept_of}
@@ -126,15 +125,15 @@ module _ (s : List ℕ) (size : ℕ) where
   still_clear at q = every_is (λ i. not (occupies (entry_of s i) at size)) (used_of s) (λ i h. rw (swept_still at (used_of s) q i h))
 
   -- the ways out of lowest_gap, and its turn
-  pub gap_none : (pool : ℕ) → pool < size → Gap.Nothing ≡ lowest_gap s pool size
+  pub gap_none : (pool : ℕ) → pool < size → None ≡ lowest_gap s pool size
   unfolding lowest_gap
   gap_none pool h = ap as_gap (passed_all (pool + 1 - size) (passed_none (clear_at s size)) (omega arith))
 
-  pub gap_past : (pool at : ℕ) → Passed (clear_at s size) at → size ≤ pool → pool - size < at → Gap.Nothing ≡ lowest_gap s pool size
+  pub gap_past : (pool at : ℕ) → Passed (clear_at s size) at → size ≤ pool → pool - size < at → None ≡ lowest_gap s pool size
   unfolding lowest_gap
   gap_past pool at o l h = ap as_gap (passed_all (pool + 1 - size) o (omega arith))
 
-  pub gap_here : (pool at : ℕ) {next : ℕ} → Passed (clear_at s size) at → size ≤ pool → at ≤ pool - size → next ≡ swept_of s size at → next ≡ at → Gap.Start at ≡ lowest_gap s pool size
+  pub gap_here : (pool at : ℕ) {next : ℕ} → Passed (clear_at s size) at → size ≤ pool → at ≤ pool - size → next ≡ swept_of s size at → next ≡ at → Some at ≡ lowest_gap s pool size
   unfolding lowest_gap
   gap_here pool at {next} o l h p q = ap as_gap (passed_at (pool + 1 - size) o (omega arith) (still_clear at (sym p ∙ q)))
 
@@ -159,32 +158,32 @@ module _ (s : List ℕ) (size : ℕ) where
   clear_says u h k l m = true≢false (sym h ∙ blocked s size u k l m)
 
   -- what is answered is a gap, and where there is one it is answered
-  pub start-says : (pool t : ℕ) → lowest_gap s pool size ≡ Gap.Start t → GapAt s pool size t
+  pub start-says : (pool t : ℕ) → lowest_gap s pool size ≡ Some t → GapAt s pool size t
   unfolding lowest_gap
   start-says pool t e = go (first (clear_at s size) (pool + 1 - size)) refl e
     where
-      go : (o : Option ℕ) → first (clear_at s size) (pool + 1 - size) ≡ o → as_gap o ≡ Gap.Start t → GapAt s pool size t
-      go none q z = let w : ◌≡◌ {A = ℕ} 0 1 = cc in absurd (omega arith)
-      go (some i) q z =
+      go : (o : Option ℕ) → first (clear_at s size) (pool + 1 - size) ≡ o → as_gap o ≡ Some t → GapAt s pool size t
+      go None q z = let w : ◌≡◌ {A = ℕ} 0 1 = cc in absurd (omega arith)
+      go (Some i) q z =
           let t-is : i ≡ t = cc in
           let l : Lowest (clear_at s size) (pool + 1 - size) i = at-says (clear_at s size) (pool + 1 - size) i q in
           rw (← t-is) (record { fits = omega (arith, l.below); clear = clear_says i l.accepted; lowest = l.others })
 
   -- Nothing is answered exactly where every start within the pool is in some buffer's way
-  pub nothing_says_blocked : (pool : ℕ) → lowest_gap s pool size ≡ Gap.Nothing → (u : ℕ) → u + size ≤ pool → clear_at s size u ≡ false
+  pub nothing_says_blocked : (pool : ℕ) → lowest_gap s pool size ≡ None → (u : ℕ) → u + size ≤ pool → clear_at s size u ≡ false
   unfolding lowest_gap
   nothing_says_blocked pool e u h = go (first (clear_at s size) (pool + 1 - size)) refl e
     where
-      go : (o : Option ℕ) → first (clear_at s size) (pool + 1 - size) ≡ o → as_gap o ≡ Gap.Nothing → clear_at s size u ≡ false
-      go none q z = nothing-says (clear_at s size) (pool + 1 - size) q u (omega arith)
-      go (some i) q z = let w : ◌≡◌ {A = ℕ} 0 1 = cc in absurd (omega arith)
+      go : (o : Option ℕ) → first (clear_at s size) (pool + 1 - size) ≡ o → as_gap o ≡ None → clear_at s size u ≡ false
+      go None q z = nothing-says (clear_at s size) (pool + 1 - size) q u (omega arith)
+      go (Some i) q z = let w : ◌≡◌ {A = ℕ} 0 1 = cc in absurd (omega arith)
 
-  pub blocked_is_nothing : (pool : ℕ) → ((u : ℕ) → u + size ≤ pool → clear_at s size u ≡ false) → lowest_gap s pool size ≡ Gap.Nothing
+  pub blocked_is_nothing : (pool : ℕ) → ((u : ℕ) → u + size ≤ pool → clear_at s size u ≡ false) → lowest_gap s pool size ≡ None
   unfolding lowest_gap
   blocked_is_nothing pool h = ap as_gap (nothing_is (clear_at s size) (pool + 1 - size) (λ u l. h u (omega arith)))
 
 -- 01: "Capacity 0 starts at 0 and overlaps nothing."
-pub empty_starts_at_0 : (s : List ℕ) (pool : ℕ) → lowest_gap s pool 0 ≡ Gap.Start 0
+pub empty_starts_at_0 : (s : List ℕ) (pool : ℕ) → lowest_gap s pool 0 ≡ Some 0
 unfolding lowest_gap clear_at
 empty_starts_at_0 s pool =
     ap as_gap

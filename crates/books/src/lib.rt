@@ -17,20 +17,6 @@ pub struct Entry {
     pub listings: u32,
 }
 
-// A number that was looked for.
-#[derive(Clone, Copy)]
-pub enum Found {
-    At(BufferNumber),
-    Nothing,
-}
-
-// A start in the pool that was looked for.
-#[derive(Clone, Copy)]
-pub enum Gap {
-    Start(u32),
-    Nothing,
-}
-
 // The entry of number i.
 pub fn entry_at(books: &[u8], i: BufferNumber) -> Entry
     requires { 24 + 20 * i.0 ≤ length books.now }

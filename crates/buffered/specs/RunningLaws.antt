@@ -1,7 +1,7 @@
 -- What the tests of 1 and 14 give the steps of a call: slots and pool are read for their lengths only.
 use Rattle.std.specs.Prelude.{ℕ, ◌≡◌, List, length}
 use Rattle.std.proofs.Common.{sym, ◌∙◌}
-use Rattle.std.proofs.Math.Option.{none}
+use Rattle.std.specs.Prelude.{None}
 use Rattle.words.specs.WordLaws.{Bytes}
 use Rattle.columns.specs.Pushing.{Running}
 use Rattle.push_safety.specs.Run.{Run}

@@ -4,7 +4,6 @@ use Rattle.std.proofs.Math.Path.{refl, ap}
 use Rattle.std.proofs.Common.{sym, ◌∙◌}
 use native.Mathlib.Omega.{arith}
 use borrow.Author.Tests.{ne_eqb}
-use Rattle.pool.specs.declared.Registered.{Registered}
 use Rattle.pool.specs.Register.{registered, let_go}
 use Rattle.pool.specs.Register as register
 use Rattle.pool.specs.Read.{read_refusal, part_of}
@@ -14,6 +13,8 @@ use Rattle.rules.specs.Ranges.{tested}
 use Rattle.rules.specs.Calls.{buffer_number_call, buffer_call, register_call, let_go_call}
 use Rattle.pool_reads.specs.Place.{part_start, PartAt}
 use Rattle.buffers.specs.Buffers.{RegistersCall, LetsGoCall, buffer_start}
+use Rattle.std.specs.Prelude.{Result, Err}
+use Rattle.counts.specs.declared.BufferNumber.{BufferNumber}
 
 -- n is what the tests answered
 module _ (s : BatchCoalescer) (slots pool books : List ℕ) {n : ℕ} (e : n ≡ tested (world s slots pool books)) where
@@ -42,13 +43,13 @@ module _ (s : BatchCoalescer) (slots pool books : List ℕ) {n : ℕ} (e : n ≡
   unfolding buffer_start
   place_read i z p = rw (← e, z) p
 
-  pub register_refused : (bytes : List ℕ) (capacity : ℕ) → (n ≡ 0 → ⊥) → RegistersCall (register_call (world s slots pool books) bytes capacity) pool books (Registered.Refused n)
+  pub register_refused : (bytes : List ℕ) (capacity : ℕ) → (n ≡ 0 → ⊥) → RegistersCall (register_call (world s slots pool books) bytes capacity) pool books (Err n)
   unfolding register_call
   register_refused bytes capacity h =
       rw (ne_eqb (tested (world s slots pool books)) 0 (λ z. h (e ∙ z)), register_call)
-      (record { answer_is = ap Registered.Refused e; pool_is = refl; books_are = refl })
+      (record { answer_is = ap Err e; pool_is = refl; books_are = refl })
 
-  pub register_done : (bytes : List ℕ) (capacity : ℕ) {pool' books' : List ℕ} {r : Registered} → n ≡ 0 → register.Registers (registered books pool s.numbers bytes capacity) books' pool' r → RegistersCall (register_call (world s slots pool books) bytes capacity) pool' books' r
+  pub register_done : (bytes : List ℕ) (capacity : ℕ) {pool' books' : List ℕ} {r : Result BufferNumber ℕ} → n ≡ 0 → register.Registers (registered books pool s.numbers bytes capacity) books' pool' r → RegistersCall (register_call (world s slots pool books) bytes capacity) pool' books' r
   unfolding register_call
   register_done bytes capacity z o =
       rw (sym e ∙ z, register_call)

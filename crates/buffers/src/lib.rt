@@ -8,7 +8,6 @@ ghost use Rattle.pool_reads.specs.Place.{PartAt};
 ghost use Rattle.buffers.specs.Buffers.{RegistersCall, LetsGoCall, buffer_start};
 
 use counts::{BufferNumber, ByteCount};
-use pool::Registered;
 use state::BatchCoalescer;
 
 // Registers bytes with a capacity; the caller holds the buffer. 13, 11, 12.
@@ -19,14 +18,14 @@ pub fn register_buffer(
     books: &mut [u8],
     bytes: &[u8],
     capacity: ByteCount,
-) -> Registered
+) -> Result<BufferNumber, u32>
     ensures { RegistersCall (register_call (world s slots.now pool.old books.old) bytes.now capacity.0) pool.new books.new result }
 {
     let number = ranges::tested(s, slots, pool, books);
     if number == 0 {
         pool::register(books, pool, s.numbers, bytes, capacity)
     } else {
-        Registered::Refused(number)
+        Err(number)
     }
 }
 

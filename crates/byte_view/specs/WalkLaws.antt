@@ -1,7 +1,7 @@
 -- The walk over views: none passed yet, one more, the ways out.
 use Rattle.std.specs.Prelude.{ℕ, ◌+◌, ◌*◌, ◌-◌, ◌≤◌, ◌<◌, ◌≡◌, refl, List, ltb}
 use Rattle.std.proofs.Common.{ap, arith, lt-ltb, le-ltb}
-use Rattle.std.proofs.Math.Option.{some, none}
+use Rattle.std.specs.Prelude.{Some, None}
 use Rattle.search.specs.First.{first, Passed}
 use Rattle.search.specs.FirstLaws.{passed_none, passed_more, passed_at, passed_all}
 use Rattle.views.specs.declared.View.{View}
@@ -41,7 +41,7 @@ unfolding walk_of walk_rows
 walked_at {body} {at} {rest} {left} i n {v} w a q h =
     let t = w.taken in
     let m : v.length ≡ (view_of body (at + i * 16)).length = ap (λ (y : View). y.length) q in
-    let s : some i ≡ first (λ u. ltb (rest - long_to (views_at body at) u) (views_at body at u).length) n =
+    let s : Some i ≡ first (λ u. ltb (rest - long_to (views_at body at) u) (views_at body at u).length) n =
     passed_at n w.passed a (lt-ltb (rest - long_to (views_at body at) i) (view_of body (at + i * 16)).length (omega arith)) in
     let d : rest - left ≡ long_to (views_at body at) i = omega arith in
     rw (← s, d)
@@ -51,7 +51,7 @@ pub walked_all : {body : List ℕ} {at rest left i : ℕ} (n : ℕ) → Walking 
 unfolding walk_of walk_rows
 walked_all {body} {at} {rest} {left} {i} n w a b =
     let t = w.taken in
-    let s : none ≡ first (λ u. ltb (rest - long_to (views_at body at) u) (views_at body at u).length) n =
+    let s : None ≡ first (λ u. ltb (rest - long_to (views_at body at) u) (views_at body at u).length) n =
     passed_all n w.passed b in
     let g : long_to (views_at body at) i ≡ long_to (views_at body at) n = ideal-all body at i n refl a b in
     let d : rest - left ≡ long_to (views_at body at) n = omega arith in

@@ -8,10 +8,8 @@ use Rattle.std.proofs.Math.Seq.{take-length}
 use borrow.Author.Tests.{eq-eqb, ne_eqb, eqb-true}
 use Rattle.words.specs.Run.{put, lay}
 use Rattle.words.specs.WordLaws.{Bytes}
-use Rattle.pool.specs.declared.Registered.{Registered}
 use Rattle.pool.specs.Register.{refusal_of}
 use Rattle.state.specs.declared.BatchCoalescer.{BatchCoalescer}
-use Rattle.state.specs.declared.Limit.{Limit}
 use Rattle.state.specs.declared.RowAnswer.{RowAnswer}
 use Rattle.state.specs.World.{World, world, column_of}
 use Rattle.rules.specs.Batch.{Batch}
@@ -33,6 +31,9 @@ use Rattle.codes.specs.LimitLaws.{limited-code}
 use Rattle.crossing.specs.Cross.{kept_as, KeepsState, pair, number_in, limit_pair, row_bytes}
 use Rattle.capi.specs.Api.{Memory, memory, said, told, Form, number, both, in_form, Given, given, pushing, finishing, dropping, registering, letting_go, world_in, coded, uncoded, called}
 use Rattle.capi.specs.Api.{buffer_number, part_in, buffer_read, row_in, row_read, limit_set, limit_read, rows_buffered, completed_flag, empty_flag}
+use Rattle.std.specs.Prelude.{Option, Result}
+use Rattle.counts.specs.declared.BufferNumber.{BufferNumber}
+use Rattle.counts.specs.declared.RowCount.{RowCount}
 
 -- ---- what decoding says
 
@@ -174,7 +175,7 @@ module _ (b : List ℕ) (w : World) where
   drop-made x k p =
       rw (p, k.answer_is, k.bytes_are, x.number_is, x.state_is, x.rows_are, x.books_are, (drop-same w).0, (drop-same w).1)
 
-  register_made : (bytes : List ℕ) (capacity : ℕ) {a : Registered} {pool' books' : List ℕ} {r : ℕ} → code_of w.state ≡ b → RegistersCall (register_call w bytes capacity) pool' books' a → r ≡ pair (refusal_of a) (number_in a) → said r (memory b w.slots pool' books') ≡ coded both b (registering bytes capacity w)
+  register_made : (bytes : List ℕ) (capacity : ℕ) {a : Result BufferNumber ℕ} {pool' books' : List ℕ} {r : ℕ} → code_of w.state ≡ b → RegistersCall (register_call w bytes capacity) pool' books' a → r ≡ pair (refusal_of a) (number_in a) → said r (memory b w.slots pool' books') ≡ coded both b (registering bytes capacity w)
   unfolding coded registering
   register_made bytes capacity {a} {pool'} {books'} {r} c x p =
       let y : kept_as (refusal_of (register_call w bytes capacity).answer) (register_call w bytes capacity).world.state b ≡ b = same_bytes b (refusal_of (register_call w bytes capacity).answer) (register_same w bytes capacity).0 c in
@@ -192,7 +193,7 @@ module _ (b slots pool books : List ℕ) {d : Coded} (e : d ≡ decoded b) (z : 
   drop-said x k p =
       drop-made b (world d.state slots pool books) x k p ∙ call_done both dropping b slots pool books e z refl
 
-  pub register_said : (bytes : List ℕ) (capacity : ℕ) {a : Registered} {pool' books' : List ℕ} {r : ℕ} → Bytes b → RegistersCall (register_call (world d.state slots pool books) bytes capacity) pool' books' a → r ≡ pair (refusal_of a) (number_in a) → said r (memory b slots pool' books') ≡ called both (registering bytes capacity) (memory b slots pool books)
+  pub register_said : (bytes : List ℕ) (capacity : ℕ) {a : Result BufferNumber ℕ} {pool' books' : List ℕ} {r : ℕ} → Bytes b → RegistersCall (register_call (world d.state slots pool books) bytes capacity) pool' books' a → r ≡ pair (refusal_of a) (number_in a) → said r (memory b slots pool' books') ≡ called both (registering bytes capacity) (memory b slots pool books)
   register_said bytes capacity is x p =
       register_made b (world d.state slots pool books) bytes capacity (decoded-code b e z is) x p
       ∙ call_done both (registering bytes capacity) b slots pool books e z refl
@@ -253,22 +254,22 @@ module _ (b : List ℕ) (flag rows : ℕ) where
   unfolding limit_set
   limit_not h = rw (ne_eqb (length b) state_bytes h)
 
-  pub limit_done : {l : Limit} {b' : List ℕ} → length b ≡ state_bytes → l ≡ limit_in flag rows → b' ≡ limited l b → told 0 b' ≡ limit_set flag rows b
+  pub limit_done : {l : Option RowCount} {b' : List ℕ} → length b ≡ state_bytes → l ≡ limit_in flag rows → b' ≡ limited l b → told 0 b' ≡ limit_set flag rows b
   unfolding limit_set
   limit_done h p q = rw (eq-eqb (length b) state_bytes h, q, p)
 
 -- of bytes that code a state they are those of the state with that limit
-limit_columns : (s : BatchCoalescer) (l : Limit) (n : ℕ) → columns_words (with_limit s l) n ≡ columns_words s n
+limit_columns : (s : BatchCoalescer) (l : Option RowCount) (n : ℕ) → columns_words (with_limit s l) n ≡ columns_words s n
 unfolding columns_words column_of
 limit_columns s l zero = refl
 limit_columns s l (suc n) = rw (limit_columns s l n)
 
-pub limit_code : (s : BatchCoalescer) (l : Limit) → limited l (code_of s) ≡ code_of (with_limit s l)
+pub limit_code : (s : BatchCoalescer) (l : Option RowCount) → limited l (code_of s) ≡ code_of (with_limit s l)
 unfolding set_up_words count_words
 limit_code s l = limited-code s (with_limit s l) refl refl (limit_columns s l 16)
 
 module _ (b : List ℕ) {d : Coded} (e : d ≡ decoded b) where
-  pub limit_said : {l : Limit} {r : ℕ} → l ≡ limit_of d.state → r ≡ limit_pair l → r ≡ limit_read b
+  pub limit_said : {l : Option RowCount} {r : ℕ} → l ≡ limit_of d.state → r ≡ limit_pair l → r ≡ limit_read b
   unfolding limit_read
   limit_said p q = q ∙ ap limit_pair p ∙ ap (λ (x : Coded). limit_pair (limit_of x.state)) e
 

@@ -1,7 +1,7 @@
 -- The exits of the checks of the batch: 2, 3, and the first column at fault.
 use Rattle.std.specs.Prelude.{ℕ, ◌+◌, ◌*◌, ◌≤◌, ◌<◌, ◌≡◌, refl, true, false, List, [], length}
 use Rattle.std.proofs.Common.{sym, ◌∙◌, ap, true≢false, arith}
-use Rattle.std.proofs.Math.Option.{Option, none, some}
+use Rattle.std.specs.Prelude.{Option, None, Some}
 use Rattle.search.specs.First.{Passed}
 use Rattle.search.specs.FirstLaws.{passed_none, passed_more}
 use Rattle.state.specs.declared.BatchCoalescer.{BatchCoalescer}
@@ -14,7 +14,7 @@ use Rattle.rules.proofs.CheckLaws.{ColumnBad, four, five, six, seven, column_bad
 use Rattle.checks.specs.Checked.{fault_at, faulty_at}
 
 -- the fault of a column has a number
-numbered : (w : World) (b : Batch) (c : ℕ) (f : Fault) → column_fault w b c ≡ some f → f.number ≡ 0 → ⊥
+numbered : (w : World) (b : Batch) (c : ℕ) (f : Fault) → column_fault w b c ≡ Some f → f.number ≡ 0 → ⊥
 numbered w b c f e z = go (column_bad w b c f e)
   where
     go : ColumnBad w b c f → ⊥
@@ -24,23 +24,23 @@ numbered w b c f e z = go (column_bad w b c f e)
     go (seven q p r t l v o) = omega arith
 
 -- so number 0 says that there is none, and another that it is this one
-fault-none : (w : World) (b : Batch) (c : ℕ) (f : Fault) → f ≡ fault_of (column_fault w b c) → f.number ≡ 0 → column_fault w b c ≡ none
+fault-none : (w : World) (b : Batch) (c : ℕ) (f : Fault) → f ≡ fault_of (column_fault w b c) → f.number ≡ 0 → column_fault w b c ≡ None
 fault-none w b c f e z = go (column_fault w b c) refl
   where
-    go : (o : Option Fault) → column_fault w b c ≡ o → column_fault w b c ≡ none
-    go none q = q
-    go (some g) q = absurd (numbered w b c g q (ap (λ (x : Fault). x.number) (sym (e ∙ ap fault_of q)) ∙ z))
+    go : (o : Option Fault) → column_fault w b c ≡ o → column_fault w b c ≡ None
+    go None q = q
+    go (Some g) q = absurd (numbered w b c g q (ap (λ (x : Fault). x.number) (sym (e ∙ ap fault_of q)) ∙ z))
 
-fault-some : (w : World) (b : Batch) (c : ℕ) (f : Fault) → f ≡ fault_of (column_fault w b c) → (f.number ≡ 0 → ⊥) → column_fault w b c ≡ some f
+fault-some : (w : World) (b : Batch) (c : ℕ) (f : Fault) → f ≡ fault_of (column_fault w b c) → (f.number ≡ 0 → ⊥) → column_fault w b c ≡ Some f
 fault-some w b c f e h = go (column_fault w b c) refl
   where
-    go : (o : Option Fault) → column_fault w b c ≡ o → column_fault w b c ≡ some f
-    go none q = absurd (h (ap (λ (x : Fault). x.number) (e ∙ ap fault_of q)))
-    go (some g) q = q ∙ ap some (sym (e ∙ ap fault_of q))
+    go : (o : Option Fault) → column_fault w b c ≡ o → column_fault w b c ≡ Some f
+    go None q = absurd (h (ap (λ (x : Fault). x.number) (e ∙ ap fault_of q)))
+    go (Some g) q = q ∙ ap Some (sym (e ∙ ap fault_of q))
 
-not_fault : (o : Option Fault) → is_fault o ≡ false → o ≡ none
-not_fault none e = refl
-not_fault (some f) e = absurd (true≢false e)
+not_fault : (o : Option Fault) → is_fault o ≡ false → o ≡ None
+not_fault None e = refl
+not_fault (Some f) e = absurd (true≢false e)
 
 module _ (s : BatchCoalescer) (pool books records body : List ℕ) (rows : ℕ) where
   abbrev W : World
@@ -64,7 +64,7 @@ module _ (s : BatchCoalescer) (pool books records body : List ℕ) (rows : ℕ) 
   faulty_more {c} {f} o e z = passed_more o (ap is_fault (fault-none W B c f e z))
 
   -- no column so far is at fault
-  so_far : {c : ℕ} → Passed (faulty_at s pool books records body rows) c → (k : ℕ) → k < c → column_fault W B k ≡ none
+  so_far : {c : ℕ} → Passed (faulty_at s pool books records body rows) c → (k : ℕ) → k < c → column_fault W B k ≡ None
   unfolding faulty_at
   so_far o k l = not_fault (column_fault W B k) (o.others k l)
 

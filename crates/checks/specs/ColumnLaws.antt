@@ -2,7 +2,7 @@
 use Rattle.std.specs.Prelude.{ℕ, ◌*◌, ◌≤◌, ◌<◌, ◌≡◌, refl, Bool, true, false, List, [], length}
 use Rattle.std.proofs.Math.Path.{sym}
 use Rattle.std.proofs.Common.{◌∙◌, ap, arith}
-use Rattle.std.proofs.Math.Option.{Option, none, some}
+use Rattle.std.specs.Prelude.{Option, None, Some}
 use borrow.Author.Tests.{lt-ltb, le-ltb}
 use Rattle.search.specs.First.{first}
 use Rattle.search.specs.FirstLaws.{at-says}
@@ -50,8 +50,8 @@ row_fault_is c rows p = go (first p rows) refl
     some_is i l = row-some rows c refl l refl
 
     go : (o : Option ℕ) → first p rows ≡ o → fault_of (row_fault c o) ≡ row_fault_of (or_all rows o) rows c
-    go none e = row-none rows c refl (omega arith) refl
-    go (some i) e = some_is i (at-says p rows i e).below
+    go None e = row-none rows c refl (omega arith) refl
+    go (Some i) e = some_is i (at-says p rows i e).below
 
 -- ---- a column
 

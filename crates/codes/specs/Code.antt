@@ -4,10 +4,11 @@ use Rattle.words.specs.Word.{word32, with_word32}
 use Rattle.search.specs.Every.{every}
 use Rattle.state.specs.declared.BatchCoalescer.{BatchCoalescer}
 use Rattle.state.specs.declared.Column.{Column}
-use Rattle.state.specs.declared.Limit.{Limit}
-use Rattle.state.specs.declared.OpenBlock.{OpenBlock}
 use Rattle.state.specs.World.{no_column, column_of}
 use Rattle.codes.specs.declared.Coded.{Coded}
+use Rattle.std.specs.Prelude.{Option, Some, None}
+use Rattle.counts.specs.declared.BufferNumber.{BufferNumber}
+use Rattle.counts.specs.declared.RowCount.{RowCount}
 
 -- the bytes of a coded state, and where its columns begin: 12 words, then four for each of 16 columns
 abbrev pub state_bytes : ℕ
@@ -19,26 +20,26 @@ columns_at = 48
 -- ---- a state as bytes
 
 -- a limit and an open block as two words: a flag, and the number or 0
-unfoldable pub limit_flag : Limit → ℕ
-limit_flag (Limit.Rows most) = 1
-limit_flag Limit.Unset = 0
+unfoldable pub limit_flag : Option RowCount → ℕ
+limit_flag (Some most) = 1
+limit_flag None = 0
 
-unfoldable pub limit_number : Limit → ℕ
-limit_number (Limit.Rows most) = most.0
-limit_number Limit.Unset = 0
+unfoldable pub limit_number : Option RowCount → ℕ
+limit_number (Some most) = most.0
+limit_number None = 0
 
-unfoldable pub limit_words : Limit → List ℕ
+unfoldable pub limit_words : Option RowCount → List ℕ
 limit_words l = limit_flag l ∷ limit_number l ∷ []
 
-unfoldable pub block_flag : OpenBlock → ℕ
-block_flag (OpenBlock.Number k) = 1
-block_flag OpenBlock.Closed = 0
+unfoldable pub block_flag : Option BufferNumber → ℕ
+block_flag (Some k) = 1
+block_flag None = 0
 
-unfoldable pub block_number : OpenBlock → ℕ
-block_number (OpenBlock.Number k) = k.0
-block_number OpenBlock.Closed = 0
+unfoldable pub block_number : Option BufferNumber → ℕ
+block_number (Some k) = k.0
+block_number None = 0
 
-unfoldable pub block_words : OpenBlock → List ℕ
+unfoldable pub block_words : Option BufferNumber → List ℕ
 block_words o = block_flag o ∷ block_number o ∷ []
 
 -- the four words of a column, and those of the first n columns
@@ -70,7 +71,7 @@ unfoldable pub code_of : BatchCoalescer → List ℕ
 code_of s = bytes_of (words_of s)
 
 -- the bytes of a state with another limit: its two words, and every other byte as it was
-unfoldable pub limited : Limit → List ℕ → List ℕ
+unfoldable pub limited : Option RowCount → List ℕ → List ℕ
 limited l b = with_word32 (with_word32 b 28 (limit_flag l)) 32 (limit_number l)
 
 -- each number of a column is a word
@@ -101,11 +102,11 @@ pub record Words (s : BatchCoalescer) : Type 0 where
 unfoldable pub is_flagged : ℕ → ℕ → Bool
 is_flagged flag word = cond (eqb flag 0) (eqb word 0) (eqb flag 1)
 
-unfoldable pub limit_in : ℕ → ℕ → Limit
-limit_in flag word = cond (eqb flag 0) Limit.Unset (Limit.Rows (record { 0 = word }))
+unfoldable pub limit_in : ℕ → ℕ → Option RowCount
+limit_in flag word = cond (eqb flag 0) None (Some (record { 0 = word }))
 
-unfoldable pub block_in : ℕ → ℕ → OpenBlock
-block_in flag word = cond (eqb flag 0) OpenBlock.Closed (OpenBlock.Number (record { 0 = word }))
+unfoldable pub block_in : ℕ → ℕ → Option BufferNumber
+block_in flag word = cond (eqb flag 0) None (Some (record { 0 = word }))
 
 -- column c, and the first n columns
 abbrev pub column_place : ℕ → ℕ
@@ -161,7 +162,7 @@ zero_state =
       lists = 0;
       numbers = 0;
       pool = record { 0 = 0 };
-      limit = Limit.Unset;
+      limit = None;
       place = 0;
       queued = 0;
       buffered = record { 0 = 0 };

@@ -5,12 +5,11 @@ use Rattle.words.specs.Word.{with_word32}
 use Rattle.words.specs.WordLaws.{length-with_word32}
 use Rattle.state.specs.declared.BatchCoalescer.{BatchCoalescer}
 use Rattle.state.specs.declared.Column.{Column}
-use Rattle.state.specs.declared.Limit.{Limit}
-use Rattle.state.specs.declared.OpenBlock.{OpenBlock}
 use Rattle.counts.specs.declared.RowCount.{RowCount}
 use Rattle.counts.specs.declared.BufferNumber.{BufferNumber}
 use Rattle.state.specs.World.{no_column, column_of}
 use Rattle.codes.specs.Code.{
+use Rattle.std.specs.Prelude.{Option, Some, None}
   state_bytes,
   columns_at,
   bytes_of,
@@ -93,15 +92,15 @@ column-put b t u at d e f =
     rw n (words_behind (take (at + 8 + 8) u) (take (at + 8) t) (take at b) (d.kind ∷ d.source.current.0 ∷ []) (block_words d.block) f e)
 
 -- the limit's two words, by its cases; they stand behind what stood before them, and what stood behind them stays
-pub limited-rows : (l : Limit) {k : RowCount} (b : List ℕ) {t u : List ℕ} → l ≡ Limit.Rows k → t ≡ with_word32 b 28 1 → u ≡ with_word32 t 32 k.0 → u ≡ limited l b
+pub limited-rows : (l : Option RowCount) {k : RowCount} (b : List ℕ) {t u : List ℕ} → l ≡ Some k → t ≡ with_word32 b 28 1 → u ≡ with_word32 t 32 k.0 → u ≡ limited l b
 unfolding limited limit_flag limit_number
 limited-rows l b h e f = rw (f, e, h)
 
-pub limited_unset : (l : Limit) (b : List ℕ) {t u : List ℕ} → l ≡ Limit.Unset → t ≡ with_word32 b 28 0 → u ≡ with_word32 t 32 0 → u ≡ limited l b
+pub limited_unset : (l : Option RowCount) (b : List ℕ) {t u : List ℕ} → l ≡ None → t ≡ with_word32 b 28 0 → u ≡ with_word32 t 32 0 → u ≡ limited l b
 unfolding limited limit_flag limit_number
 limited_unset l b h e f = rw (f, e, h)
 
-pub limited-take : (l : Limit) (b : List ℕ) {u : List ℕ} → u ≡ limited l b → length b ≡ state_bytes → take 36 u ≡ take 28 b ++ bytes_of (limit_words l)
+pub limited-take : (l : Option RowCount) (b : List ℕ) {u : List ℕ} → u ≡ limited l b → length b ≡ state_bytes → take 36 u ≡ take 28 b ++ bytes_of (limit_words l)
 unfolding limited limit_words
 limited-take l b e h = two_put b 28 (limit_flag l) (limit_number l) refl e (omega arith)
 
@@ -113,19 +112,19 @@ word_drop b n at v h =
     ∙ drop-set-lt n _ (at + 1) (v / 256 % 256) (omega arith)
     ∙ drop-set-lt n b at (v % 256) (omega arith)
 
-pub limited-drop : (l : Limit) (b : List ℕ) → drop 36 (limited l b) ≡ drop 36 b
+pub limited-drop : (l : Option RowCount) (b : List ℕ) → drop 36 (limited l b) ≡ drop 36 b
 unfolding limited
 limited-drop l b = word_drop _ 36 32 (limit_number l) (omega arith) ∙ word_drop b 36 28 (limit_flag l) (omega arith)
 
-pub length-limited : (l : Limit) (b : List ℕ) → length (limited l b) ≡ length b
+pub length-limited : (l : Option RowCount) (b : List ℕ) → length (limited l b) ≡ length b
 unfolding limited
 length-limited l b = length-with_word32 _ 32 (limit_number l) ∙ length-with_word32 b 28 (limit_flag l)
 
-pub block_put_number : (o : OpenBlock) (k : BufferNumber) (x p : List ℕ) → o ≡ OpenBlock.Number k → x ≡ p ++ bytes_of (1 ∷ k.0 ∷ []) → x ≡ p ++ bytes_of (block_words o)
+pub block_put_number : (o : Option BufferNumber) (k : BufferNumber) (x p : List ℕ) → o ≡ Some k → x ≡ p ++ bytes_of (1 ∷ k.0 ∷ []) → x ≡ p ++ bytes_of (block_words o)
 unfolding block_words block_flag block_number
 block_put_number o k x p h e = rw h e
 
-pub block_put_closed : (o : OpenBlock) (x p : List ℕ) → o ≡ OpenBlock.Closed → x ≡ p ++ bytes_of (0 ∷ 0 ∷ []) → x ≡ p ++ bytes_of (block_words o)
+pub block_put_closed : (o : Option BufferNumber) (x p : List ℕ) → o ≡ None → x ≡ p ++ bytes_of (0 ∷ 0 ∷ []) → x ≡ p ++ bytes_of (block_words o)
 unfolding block_words block_flag block_number
 block_put_closed o x p h e = rw h e
 

@@ -8,11 +8,12 @@ use Rattle.search.specs.Cases.{both}
 use Rattle.words.specs.Word.{word_of, word32}
 use Rattle.words.specs.WordLaws.{Bytes, word32_lt}
 use Rattle.state.specs.declared.BatchCoalescer.{BatchCoalescer}
-use Rattle.state.specs.declared.Limit.{Limit}
-use Rattle.state.specs.declared.OpenBlock.{OpenBlock}
 use Rattle.state.specs.World.{no_column, column_of}
 use Rattle.codes.specs.TakeLaws.{length-columns_in, get_d_columns_in}
 use Rattle.codes.specs.Code.{
+use Rattle.std.specs.Prelude.{Option, Some, None}
+use Rattle.counts.specs.declared.BufferNumber.{BufferNumber}
+use Rattle.counts.specs.declared.RowCount.{RowCount}
   state_bytes,
   bytes_of,
   limit_flag,
@@ -126,25 +127,25 @@ code-column s c j i v h k e f l =
     rw n (word_code s (12 + (4 * c + j)) (omega arith) ∙ w)
 
 -- a limit and a block read back
-limit_same : (l : Limit) → limit_in (limit_flag l) (limit_number l) ≡ l
+limit_same : (l : Option RowCount) → limit_in (limit_flag l) (limit_number l) ≡ l
 unfolding limit_in limit_flag limit_number
-limit_same (Limit.Rows most) = refl
-limit_same Limit.Unset = refl
+limit_same (Some most) = refl
+limit_same None = refl
 
-block_same : (o : OpenBlock) → block_in (block_flag o) (block_number o) ≡ o
+block_same : (o : Option BufferNumber) → block_in (block_flag o) (block_number o) ≡ o
 unfolding block_in block_flag block_number
-block_same (OpenBlock.Number k) = refl
-block_same OpenBlock.Closed = refl
+block_same (Some k) = refl
+block_same None = refl
 
-limit_flag_lem : (l : Limit) → limit_flag l < 2 ^ 32
+limit_flag_lem : (l : Option RowCount) → limit_flag l < 2 ^ 32
 unfolding limit_flag
-limit_flag_lem (Limit.Rows most) = omega arith
-limit_flag_lem Limit.Unset = omega arith
+limit_flag_lem (Some most) = omega arith
+limit_flag_lem None = omega arith
 
-block_flag_lem : (o : OpenBlock) → block_flag o < 2 ^ 32
+block_flag_lem : (o : Option BufferNumber) → block_flag o < 2 ^ 32
 unfolding block_flag
-block_flag_lem (OpenBlock.Number k) = omega arith
-block_flag_lem OpenBlock.Closed = omega arith
+block_flag_lem (Some k) = omega arith
+block_flag_lem None = omega arith
 
 -- a column reads back
 column-same : (s : BatchCoalescer) (c : ℕ) → c < 16 → ColumnFits (column_of s c) → column_in (code_of s) c ≡ column_of s c
@@ -188,15 +189,15 @@ state_code s w =
     )
 
 -- what is encoded is coded: a flag is 0 or 1, and beside a 0 stands a 0
-limit_flagged : (l : Limit) (x y : ℕ) → x ≡ limit_flag l → (limit_number l < 2 ^ 32 → y ≡ limit_number l) → is_flagged x y ≡ true
+limit_flagged : (l : Option RowCount) (x y : ℕ) → x ≡ limit_flag l → (limit_number l < 2 ^ 32 → y ≡ limit_number l) → is_flagged x y ≡ true
 unfolding is_flagged limit_flag limit_number
-limit_flagged (Limit.Rows most) x y e f = rw e
-limit_flagged Limit.Unset x y e f = rw (e, f (omega arith))
+limit_flagged (Some most) x y e f = rw e
+limit_flagged None x y e f = rw (e, f (omega arith))
 
-block_flagged : (o : OpenBlock) (x y : ℕ) → x ≡ block_flag o → (block_number o < 2 ^ 32 → y ≡ block_number o) → is_flagged x y ≡ true
+block_flagged : (o : Option BufferNumber) (x y : ℕ) → x ≡ block_flag o → (block_number o < 2 ^ 32 → y ≡ block_number o) → is_flagged x y ≡ true
 unfolding is_flagged block_flag block_number
-block_flagged (OpenBlock.Number k) x y e f = rw e
-block_flagged OpenBlock.Closed x y e f = rw (e, f (omega arith))
+block_flagged (Some k) x y e f = rw e
+block_flagged None x y e f = rw (e, f (omega arith))
 
 column-coded : (s : BatchCoalescer) (c : ℕ) → c < 16 → is_column_coded (code_of s) c ≡ true
 unfolding is_column_coded column_words block_words
@@ -222,7 +223,7 @@ limit_number_lem : (f w : ℕ) → w < 2 ^ 32 → limit_number (limit_in f w) < 
 unfolding limit_number limit_in
 limit_number_lem f w h = go (eqb f 0)
   where
-    go : (t : Bool) → limit_number (cond t Limit.Unset (Limit.Rows (record { 0 = w }))) < 2 ^ 32
+    go : (t : Bool) → limit_number (cond t None (Some (record { 0 = w }))) < 2 ^ 32
     go true = omega arith
     go false = h
 
@@ -230,7 +231,7 @@ block_number_lem : (f w : ℕ) → w < 2 ^ 32 → block_number (block_in f w) < 
 unfolding block_number block_in
 block_number_lem f w h = go (eqb f 0)
   where
-    go : (t : Bool) → block_number (cond t OpenBlock.Closed (OpenBlock.Number (record { 0 = w }))) < 2 ^ 32
+    go : (t : Bool) → block_number (cond t None (Some (record { 0 = w }))) < 2 ^ 32
     go true = omega arith
     go false = h
 

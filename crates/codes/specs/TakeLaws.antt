@@ -12,8 +12,6 @@ use Rattle.search.specs.Every.{every, every-says}
 use Rattle.words.specs.Word.{word_of, word32}
 use Rattle.words.specs.WordLaws.{Bytes}
 use Rattle.state.specs.declared.Column.{Column}
-use Rattle.state.specs.declared.Limit.{Limit}
-use Rattle.state.specs.declared.OpenBlock.{OpenBlock}
 use Rattle.state.specs.World.{no_column}
 use Rattle.codes.specs.Code.{
   state_bytes,
@@ -40,6 +38,7 @@ use Rattle.codes.specs.Code.{
   is_coded,
 }
 use Rattle.codes.specs.PutLaws.{four, words_behind, set_up_put, column-put, columns_put_none, columns_put_more, state_put}
+use Rattle.std.specs.Prelude.{Some, None}
 
 -- the four bytes of the word of four bytes
 byte_0 : (a b c d : ℕ) → a < 256 → word_of a b c d % 256 ≡ a
@@ -106,7 +105,7 @@ limit_back : (f w : ℕ) → is_flagged f w ≡ true → limit_words (limit_in f
 unfolding limit_words limit_flag limit_number limit_in
 limit_back f w h = go (eqb f 0) refl
   where
-    go : (t : Bool) → eqb f 0 ≡ t → limit_flag (cond t Limit.Unset (Limit.Rows (record { 0 = w }))) ∷ limit_number (cond t Limit.Unset (Limit.Rows (record { 0 = w }))) ∷ [] ≡ f ∷ w ∷ []
+    go : (t : Bool) → eqb f 0 ≡ t → limit_flag (cond t None (Some (record { 0 = w }))) ∷ limit_number (cond t None (Some (record { 0 = w }))) ∷ [] ≡ f ∷ w ∷ []
     go true e = rw (eqb-true f 0 e, (flag_cases f w h).0 e)
     go false e = ap (λ (x : ℕ). x ∷ w ∷ []) (sym ((flag_cases f w h).1 e))
 
@@ -114,7 +113,7 @@ block_back : (f w : ℕ) → is_flagged f w ≡ true → block_words (block_in f
 unfolding block_words block_flag block_number block_in
 block_back f w h = go (eqb f 0) refl
   where
-    go : (t : Bool) → eqb f 0 ≡ t → block_flag (cond t OpenBlock.Closed (OpenBlock.Number (record { 0 = w }))) ∷ block_number (cond t OpenBlock.Closed (OpenBlock.Number (record { 0 = w }))) ∷ [] ≡ f ∷ w ∷ []
+    go : (t : Bool) → eqb f 0 ≡ t → block_flag (cond t None (Some (record { 0 = w }))) ∷ block_number (cond t None (Some (record { 0 = w }))) ∷ [] ≡ f ∷ w ∷ []
     go true e = rw (eqb-true f 0 e, (flag_cases f w h).0 e)
     go false e = ap (λ (x : ℕ). x ∷ w ∷ []) (sym ((flag_cases f w h).1 e))
 

@@ -8,7 +8,6 @@ use Rattle.books.specs.Entry.{entry_of}
 use Rattle.blocks.specs.declared.BufferSource.{BufferSource}
 use Rattle.state.specs.declared.BatchCoalescer.{BatchCoalescer}
 use Rattle.state.specs.declared.Column.{Column}
-use Rattle.state.specs.declared.OpenBlock.{OpenBlock}
 use Rattle.state.specs.World.{world, column_of}
 use Rattle.state.specs.Layout.{is_views, list_length}
 use Rattle.state.proofs.LayoutLaws.{views_width}
@@ -22,9 +21,10 @@ use Rattle.byte_view.specs.Copying.{capacities, Entered}
 use Rattle.byte_view.specs.RuleLaws.{ideal_is, actual_is}
 use Rattle.records.specs.RecordLaws.{record_same}
 use Rattle.columns.specs.Column.{source_for, closed_length, Sourceable}
+use Rattle.std.specs.Prelude.{Option, Some, None}
 
 -- with_column: the kind is the column's own
-pub kept_kind : (s : BatchCoalescer) (c : ℕ) (source : BufferSource) (block : OpenBlock) {k : Column} → k ≡ column_of s c → set s.column c (record { kind = k.kind; source = source; block = block }) ≡ (with_column s c source block).column
+pub kept_kind : (s : BatchCoalescer) (c : ℕ) (source : BufferSource) (block : Option BufferNumber) {k : Column} → k ≡ column_of s c → set s.column c (record { kind = k.kind; source = source; block = block }) ≡ (with_column s c source block).column
 kept_kind s c source block e =
     ap (λ (x : Column). set s.column c (record { kind = x.kind; source = source; block = block })) e
 
@@ -70,14 +70,14 @@ module _ (s : BatchCoalescer) (books records body : List ℕ) (rows c : ℕ) {v 
 
 -- list_closed: no open block, or one
 module _ (s : BatchCoalescer) (books : List ℕ) (c : ℕ) {n : ℕ} {k : Column} (p : n ≡ list_length (world s [] [] books) s.place c) (q : k ≡ column_of s c) where
-  has_block_lem : {o : OpenBlock} → k.block ≡ o → is_open (world s [] [] books) c ≡ has_block o
+  has_block_lem : {o : Option BufferNumber} → k.block ≡ o → is_open (world s [] [] books) c ≡ has_block o
   has_block_lem e = ap has_block (sym (ap (λ (x : Column). x.block) q) ∙ e)
 
-  pub closed_none : k.block ≡ OpenBlock.Closed → n ≡ closed_length (world s [] [] books) c
+  pub closed_none : k.block ≡ None → n ≡ closed_length (world s [] [] books) c
   unfolding closed_length
   closed_none e = rw (has_block_lem e) p
 
-  pub closed_one : {j : BufferNumber} → k.block ≡ OpenBlock.Number j → n + 1 ≡ closed_length (world s [] [] books) c
+  pub closed_one : {j : BufferNumber} → k.block ≡ Some j → n + 1 ≡ closed_length (world s [] [] books) c
   unfolding closed_length
   closed_one {j} e = rw (has_block_lem e) (ap (λ (m : ℕ). m + 1) p)
 

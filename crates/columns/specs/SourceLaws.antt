@@ -6,7 +6,6 @@ use Rattle.tallies.specs.TallyLaws.{tally-same}
 use Rattle.counts.specs.declared.BufferNumber.{BufferNumber}
 use Rattle.books.specs.Entry.{entry_of}
 use Rattle.state.specs.declared.BatchCoalescer.{BatchCoalescer}
-use Rattle.state.specs.declared.OpenBlock.{OpenBlock}
 use Rattle.state.specs.World.{World, world, column_of}
 use Rattle.state.specs.Layout.{is_views, list_length, tally}
 use Rattle.state.proofs.LayoutLaws.{views_width}
@@ -21,6 +20,7 @@ use Rattle.push_safety.specs.Run.{Run, Readable}
 use Rattle.push_safety.specs.CallerLaws.{run_bounds, count_room, record_room, listed-entry}
 use Rattle.push_safety.specs.BlockGoes.{open_room}
 use Rattle.columns.specs.Column.{source_for, closed_length, Sourceable}
+use Rattle.std.specs.Prelude.{Option, Some}
 
 -- the bounds of set-up, as the formulas ask them
 pub run_few : {w : World} → Run w → Few w.state
@@ -88,10 +88,10 @@ module _ (s : BatchCoalescer) (slots pool books : List ℕ) (c : ℕ) where
   list-within r h = omega (arith, list_same s.place, r.lists s.place c r.fit.place h)
 
   -- rest_of's answer, for column c's open block
-  pub rest-answer : {k : BufferNumber} {n : ℕ} → (column_of s c).block ≡ OpenBlock.Number k → n ≡ (entry_of books k.0).capacity.0 - (entry_of books k.0).length.0 → n ≡ open_rest (world s slots pool books) c
+  pub rest-answer : {k : BufferNumber} {n : ℕ} → (column_of s c).block ≡ Some k → n ≡ (entry_of books k.0).capacity.0 - (entry_of books k.0).length.0 → n ≡ open_rest (world s slots pool books) c
   unfolding open_rest open_filled open_number
   rest-answer e p =
-      p ∙ ap (λ (o : OpenBlock). (entry_of books (block_number o)).capacity.0 - (entry_of books (block_number o)).length.0) (sym e)
+      p ∙ ap (λ (o : Option BufferNumber). (entry_of books (block_number o)).capacity.0 - (entry_of books (block_number o)).length.0) (sym e)
 
 module _ (w : World) (b : Batch) (c : ℕ) where
   pub source-way : (source_for w b c).way ≡ cond (is_views w.state c) (way w b c) Way.Copied

@@ -15,14 +15,14 @@ use blocks::BufferSource;
 use byte_view::Source;
 use counts::{BufferNumber, ByteSum, RowCount};
 use rules::Way;
-use state::{BatchCoalescer, Column, OpenBlock};
+use state::{BatchCoalescer, Column};
 
 // The state with another block size and another block in column c.
 pub fn with_column(
     s: BatchCoalescer,
     c: u32,
     source: BufferSource,
-    block: OpenBlock,
+    block: Option<BufferNumber>,
 ) -> BatchCoalescer
     requires { c < 16 }
     ensures { result ≡ with_column s c source block }
@@ -73,8 +73,8 @@ pub fn list_closed(s: BatchCoalescer, books: &[u8], c: u32) -> u32
     let n = slot_counts::list_length(s, books, s.place, c);
     let block = layout::column_of(s, c).block;
     match block {
-        OpenBlock::Closed => n,
-        OpenBlock::Number(_) => n + 1,
+        None => n,
+        Some(_) => n + 1,
     }
 }
 

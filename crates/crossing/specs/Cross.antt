@@ -1,26 +1,27 @@
 -- What crosses the C layer, as numbers and words: docs/HOST.md, "Functions".
 use Rattle.std.specs.Prelude.{ℕ, zero, suc, ◌+◌, ◌*◌, ◌/◌, ◌%◌, ◌≡◌, cond, List, [], ◌∷◌, eqb, set, replicate}
 use Rattle.words.specs.Word.{word32}
-use Rattle.pool.specs.declared.Registered.{Registered}
 use Rattle.state.specs.declared.BatchCoalescer.{BatchCoalescer}
-use Rattle.state.specs.declared.Limit.{Limit}
 use Rattle.state.specs.declared.Place.{Place}
 use Rattle.state.specs.declared.RowAnswer.{RowAnswer}
 use Rattle.codes.specs.Code.{bytes_of, code_of}
+use Rattle.std.specs.Prelude.{Option, Some, None, Result, Ok, Err}
+use Rattle.counts.specs.declared.BufferNumber.{BufferNumber}
+use Rattle.counts.specs.declared.RowCount.{RowCount}
 
 -- two numbers as one: the first in the upper 32 bits, the second in the lower
 abbrev pub pair : ℕ → ℕ → ℕ
 pair n v = n * 4294967296 + v
 
 -- the number of a registered buffer, and 0 beside a refusal
-abbrev pub number_in : Registered → ℕ
-number_in (Registered.Number k) = k.0
-number_in (Registered.Refused number) = 0
+abbrev pub number_in : Result BufferNumber ℕ → ℕ
+number_in (Ok k) = k.0
+number_in (Err number) = 0
 
 -- a limit: 1 and its rows, or 0
-abbrev pub limit_pair : Limit → ℕ
-limit_pair (Limit.Rows most) = pair 1 most.0
-limit_pair Limit.Unset = 0
+abbrev pub limit_pair : Option RowCount → ℕ
+limit_pair (Some most) = pair 1 most.0
+limit_pair None = 0
 
 -- where a value is, in five words: 1 in its row: the start in the slots, low word and high, 0, length; 2 in a buffer: its number, 0, offset,
 -- length

@@ -6,9 +6,7 @@ use Rattle.std.proofs.lemmas.List.{take-append-le}
 use Rattle.counts.specs.declared.BufferNumber.{BufferNumber}
 use Rattle.counts.specs.declared.ByteCount.{ByteCount}
 use Rattle.counts.specs.declared.RowCount.{RowCount}
-use Rattle.pool.specs.declared.Registered.{Registered}
 use Rattle.pool.specs.Register.{refusal_of}
-use Rattle.state.specs.declared.Limit.{Limit}
 use Rattle.state.specs.declared.Place.{Place}
 use Rattle.state.specs.declared.RowAnswer.{RowAnswer}
 use Rattle.rules.specs.Calls.{row_refusal}
@@ -18,6 +16,7 @@ use Rattle.words.specs.RunLaws.{lay-put}
 use Rattle.codes.specs.Code.{bytes_of}
 use Rattle.codes.specs.PutLaws.{bytes-append}
 use Rattle.crossing.specs.Cross.{pair, number_in, limit_pair, place_words, row_bytes, kinds_to}
+use Rattle.std.specs.Prelude.{Option, Some, None, Result, Ok, Err}
 
 -- ---- put_five
 
@@ -55,16 +54,16 @@ module _ (a : RowAnswer) (b : List ℕ) where
 
 -- ---- pairs
 
-pub registered-number : (a : Registered) {k : BufferNumber} {r : ℕ} → a ≡ Registered.Number k → r ≡ pair 0 k.0 → r ≡ pair (refusal_of a) (number_in a)
+pub registered-number : (a : Result BufferNumber ℕ) {k : BufferNumber} {r : ℕ} → a ≡ Ok k → r ≡ pair 0 k.0 → r ≡ pair (refusal_of a) (number_in a)
 registered-number a e q = rw e q
 
-pub registered-refused : (a : Registered) {n r : ℕ} → a ≡ Registered.Refused n → r ≡ pair n 0 → r ≡ pair (refusal_of a) (number_in a)
+pub registered-refused : (a : Result BufferNumber ℕ) {n r : ℕ} → a ≡ Err n → r ≡ pair n 0 → r ≡ pair (refusal_of a) (number_in a)
 registered-refused a e q = rw e q
 
-pub limit_rows : (l : Limit) {k : RowCount} {r : ℕ} → l ≡ Limit.Rows k → r ≡ pair 1 k.0 → r ≡ limit_pair l
+pub limit_rows : (l : Option RowCount) {k : RowCount} {r : ℕ} → l ≡ Some k → r ≡ pair 1 k.0 → r ≡ limit_pair l
 limit_rows l e q = rw e q
 
-pub limit_unset : (l : Limit) → l ≡ Limit.Unset → 0 ≡ limit_pair l
+pub limit_unset : (l : Option RowCount) → l ≡ None → 0 ≡ limit_pair l
 limit_unset l e = rw e
 
 pub flag_yes : (b : Bool) → b ≡ true → ◌≡◌ {A = ℕ} 1 (cond b 1 0)

@@ -8,8 +8,7 @@ ghost use Rattle.rules.specs.Calls.{row_refusal};
 ghost use Rattle.codes.specs.Code.{state_bytes, bytes_of};
 ghost use Rattle.crossing.specs.Cross.{KeepsState, pair, number_in, limit_pair, place_words, row_bytes, kinds_to};
 
-use pool::Registered;
-use state::{BatchCoalescer, Limit, Place, RowAnswer};
+use state::{BatchCoalescer, Place, RowAnswer};
 
 // Two numbers as one: the refusal in the upper 32 bits, or 0, and the value in the lower.
 pub fn both(refusal: u32, value: u32) -> u64
@@ -19,22 +18,22 @@ pub fn both(refusal: u32, value: u32) -> u64
 }
 
 // What registering answers: the refusal, and the buffer's number.
-pub fn registered_pair(answer: Registered) -> u64
+pub fn registered_pair(answer: Result<BufferNumber, u32>) -> u64
     ensures { result ≡ pair (refusal_of answer) (number_in answer) }
 {
     match answer {
-        Registered::Number(k) => both(0, k.0),
-        Registered::Refused(number) => both(number, 0),
+        Ok(k) => both(0, k.0),
+        Err(number) => both(number, 0),
     }
 }
 
 // The limit: 1 in the upper 32 bits where one is set, and its rows in the lower.
-pub fn limit_pair(limit: Limit) -> u64
+pub fn limit_pair(limit: Option<RowCount>) -> u64
     ensures { result ≡ limit_pair limit }
 {
     match limit {
-        Limit::Rows(most) => both(1, most.0),
-        Limit::Unset => 0,
+        Some(most) => both(1, most.0),
+        None => 0,
     }
 }
 

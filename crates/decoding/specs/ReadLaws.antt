@@ -8,10 +8,11 @@ use Rattle.search.specs.Cases.{both_fails, both_rest}
 use Rattle.words.specs.Word.{word32}
 use Rattle.state.specs.declared.BatchCoalescer.{BatchCoalescer}
 use Rattle.state.specs.declared.Column.{Column}
-use Rattle.state.specs.declared.Limit.{Limit}
-use Rattle.state.specs.declared.OpenBlock.{OpenBlock}
 use Rattle.codes.specs.declared.Coded.{Coded}
 use Rattle.codes.specs.Code.{
+use Rattle.std.specs.Prelude.{Option, Some, None}
+use Rattle.counts.specs.declared.BufferNumber.{BufferNumber}
+use Rattle.counts.specs.declared.RowCount.{RowCount}
   state_bytes,
   is_flagged,
   limit_in,
@@ -27,19 +28,19 @@ use Rattle.codes.specs.Code.{
 }
 
 -- a flag of 0, and another
-pub limit_unset : (f w : ℕ) → f ≡ 0 → Limit.Unset ≡ limit_in f w
+pub limit_unset : (f w : ℕ) → f ≡ 0 → None ≡ limit_in f w
 unfolding limit_in
 limit_unset f w h = rw (eq-eqb f 0 h)
 
-pub limit_set_lem : (f w : ℕ) → (f ≡ 0 → ⊥) → Limit.Rows (record { 0 = w }) ≡ limit_in f w
+pub limit_set_lem : (f w : ℕ) → (f ≡ 0 → ⊥) → Some (record { 0 = w }) ≡ limit_in f w
 unfolding limit_in
 limit_set_lem f w h = rw (ne_eqb f 0 h)
 
-pub block_closed : (f w : ℕ) → f ≡ 0 → OpenBlock.Closed ≡ block_in f w
+pub block_closed : (f w : ℕ) → f ≡ 0 → None ≡ block_in f w
 unfolding block_in
 block_closed f w h = rw (eq-eqb f 0 h)
 
-pub block_open : (f w : ℕ) → (f ≡ 0 → ⊥) → OpenBlock.Number (record { 0 = w }) ≡ block_in f w
+pub block_open : (f w : ℕ) → (f ≡ 0 → ⊥) → Some (record { 0 = w }) ≡ block_in f w
 unfolding block_in
 block_open f w h = rw (ne_eqb f 0 h)
 
@@ -52,7 +53,7 @@ unfolding is_flagged
 flag_on f w h = rw (ne_eqb f 0 h)
 
 -- what column_at returns
-pub column_is : (b : List ℕ) (c : ℕ) {k n f w : ℕ} {o : OpenBlock} → k ≡ word32 b (column_place c) → n ≡ word32 b (column_place c + 4) → f ≡ word32 b (column_place c + 8) → w ≡ word32 b (column_place c + 12) → o ≡ block_in f w → ◌≡◌ {A = Column} (record { kind = k; source = record { current = record { 0 = n } }; block = o }) (column_in b c)
+pub column_is : (b : List ℕ) (c : ℕ) {k n f w : ℕ} {o : Option BufferNumber} → k ≡ word32 b (column_place c) → n ≡ word32 b (column_place c + 4) → f ≡ word32 b (column_place c + 8) → w ≡ word32 b (column_place c + 12) → o ≡ block_in f w → ◌≡◌ {A = Column} (record { kind = k; source = record { current = record { 0 = n } }; block = o }) (column_in b c)
 unfolding column_in
 column_is b c p q r t u = rw (u, p, q, r, t)
 
@@ -73,7 +74,7 @@ columns_all b l c e h k n =
     sym (take_all 16 l (omega arith)) ∙ rw q at e
 
 -- what state_of returns
-pub state_is : (b : List ℕ) {t r q c l n p f w k m u : ℕ} {o : Limit} {ds : List Column} → ds ≡ columns_in b 16 → t ≡ word32 b 0 → r ≡ word32 b 4 → q ≡ word32 b 8 → c ≡ word32 b 12 → l ≡ word32 b 16 → n ≡ word32 b 20 → p ≡ word32 b 24 → f ≡ word32 b 28 → w ≡ word32 b 32 → o ≡ limit_in f w → k ≡ word32 b 36 → m ≡ word32 b 40 → u ≡ word32 b 44 → ◌≡◌ {A = BatchCoalescer} (record { target = record { 0 = t }; rows = record { 0 = r }; queue = q; columns = c; lists = l; numbers = n; pool = record { 0 = p }; limit = o; place = k; queued = m; buffered = record { 0 = u }; column = ds }) (state_in b)
+pub state_is : (b : List ℕ) {t r q c l n p f w k m u : ℕ} {o : Option RowCount} {ds : List Column} → ds ≡ columns_in b 16 → t ≡ word32 b 0 → r ≡ word32 b 4 → q ≡ word32 b 8 → c ≡ word32 b 12 → l ≡ word32 b 16 → n ≡ word32 b 20 → p ≡ word32 b 24 → f ≡ word32 b 28 → w ≡ word32 b 32 → o ≡ limit_in f w → k ≡ word32 b 36 → m ≡ word32 b 40 → u ≡ word32 b 44 → ◌≡◌ {A = BatchCoalescer} (record { target = record { 0 = t }; rows = record { 0 = r }; queue = q; columns = c; lists = l; numbers = n; pool = record { 0 = p }; limit = o; place = k; queued = m; buffered = record { 0 = u }; column = ds }) (state_in b)
 unfolding state_in
 state_is b e₀ e₁ e₂ e₃ e₄ e₅ e₆ e₇ e₈ e₉ g e₁₀ e₁₁ e₁₂ = rw (g, e₀, e₁, e₂, e₃, e₄, e₅, e₆, e₇, e₈, e₉, e₁₀, e₁₁, e₁₂)
 

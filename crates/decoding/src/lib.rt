@@ -8,26 +8,26 @@ ghost use Rattle.codes.specs.Code.{state_bytes, limit_in, block_in, is_flagged, 
 use blocks::BufferSource;
 use codes::{Coded, STATE_BYTES};
 use counts::{BufferNumber, ByteCount, RowCount};
-use state::{BatchCoalescer, Column, Limit, OpenBlock};
+use state::{BatchCoalescer, Column};
 
 // A limit from a flag and a number of rows.
-pub fn limit_of(set: u32, rows: u32) -> Limit
+pub fn limit_of(set: u32, rows: u32) -> Option<RowCount>
     ensures { result ≡ limit_in set rows }
 {
     if set == 0 {
-        Limit::Unset
+        None
     } else {
-        Limit::Rows(RowCount(rows))
+        Some(RowCount(rows))
     }
 }
 
-fn block_of(open: u32, number: u32) -> OpenBlock
+fn block_of(open: u32, number: u32) -> Option<BufferNumber>
     ensures { result ≡ block_in «open» number }
 {
     if open == 0 {
-        OpenBlock::Closed
+        None
     } else {
-        OpenBlock::Number(BufferNumber(number))
+        Some(BufferNumber(number))
     }
 }
 
@@ -88,7 +88,7 @@ fn columns_of(bytes: &[u8]) -> [Column; 16]
         source: BufferSource {
             current: ByteCount(0),
         },
-        block: OpenBlock::Closed,
+        block: None,
     };
     let mut column: [Column; 16] = [none; 16];
     let mut c: usize = 0;
@@ -108,7 +108,7 @@ fn zero_state() -> BatchCoalescer
         source: BufferSource {
             current: ByteCount(0),
         },
-        block: OpenBlock::Closed,
+        block: None,
     };
     BatchCoalescer {
         target: RowCount(0),
@@ -118,7 +118,7 @@ fn zero_state() -> BatchCoalescer
         lists: 0,
         numbers: 0,
         pool: ByteCount(0),
-        limit: Limit::Unset,
+        limit: None,
         place: 0,
         queued: 0,
         buffered: RowCount(0),

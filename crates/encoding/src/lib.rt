@@ -4,7 +4,7 @@
 ghost use Rattle.std.specs.Prelude.{◌≡◌, ◌+◌, ◌≤◌, [], ◌∷◌, ◌++◌, length, take};
 ghost use Rattle.codes.specs.Code.{state_bytes, columns_at, bytes_of, limit_words, block_words, column_words, columns_words, set_up_words, count_words, code_of, limited, Words};
 
-use state::{BatchCoalescer, Column, Limit, OpenBlock};
+use state::{BatchCoalescer, Column};
 
 // The words a and b at `at`: each of the functions below writes behind what stands already, from word 0 on.
 pub fn put_two(bytes: &mut [u8], at: usize, a: u32, b: u32)
@@ -35,16 +35,16 @@ fn put_set_up(bytes: &mut [u8], s: BatchCoalescer)
 }
 
 // The limit's two words, and nothing else changed; so they stand behind what stood before them.
-pub fn set_limit(bytes: &mut [u8], limit: Limit)
+pub fn set_limit(bytes: &mut [u8], limit: Option<RowCount>)
     requires { length bytes.old ≡ state_bytes }
     ensures { (bytes.new ≡ limited limit bytes.old) × (take 36 bytes.new ≡ take 28 bytes.old ++ bytes_of (limit_words limit)) }
 {
     match limit {
-        Limit::Rows(most) => {
+        Some(most) => {
             words::put32(bytes, 28, 1);
             words::put32(bytes, 32, most.0);
         }
-        Limit::Unset => {
+        None => {
             words::put32(bytes, 28, 0);
             words::put32(bytes, 32, 0);
         }
@@ -59,15 +59,15 @@ fn put_counts(bytes: &mut [u8], s: BatchCoalescer)
     put_three(bytes, 36, s.place, s.queued, s.buffered.0);
 }
 
-fn put_block(bytes: &mut [u8], at: usize, block: OpenBlock)
+fn put_block(bytes: &mut [u8], at: usize, block: Option<BufferNumber>)
     requires { at + 8 ≤ length bytes.old }
     ensures { take (at + 8) bytes.new ≡ take at bytes.old ++ bytes_of (block_words block) }
 {
     match block {
-        OpenBlock::Number(k) => {
+        Some(k) => {
             put_two(bytes, at, 1, k.0);
         }
-        OpenBlock::Closed => {
+        None => {
             put_two(bytes, at, 0, 0);
         }
     }

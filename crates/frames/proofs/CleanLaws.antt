@@ -1,7 +1,7 @@
 -- No control byte of a name reaches a screen: every frame is clean, whatever the names.
 use Rattle.std.specs.Prelude.{ℕ, zero, suc, ◌+◌, ◌/◌, ◌%◌, ◌≤◌, ◌<◌, ◌≡◌, refl, Bool, true, false, cond, not, ◌&&◌, ◌||◌, List, [], ◌∷◌, ◌++◌, length, get_or, eqb, ltb, leb}
 use Rattle.std.proofs.Common.{sym, ◌∙◌, arith, mod-lt, ltb-true, ltb-false, leb-true, eqb-true, le-ltb, ne_eqb, le-leb}
-use Rattle.std.proofs.Math.Option.{Option, none, some}
+use Rattle.std.specs.Prelude.{Option, None, Some}
 use Rattle.std.proofs.lemmas.Bool.{eqb-false, lt-leb}
 use Rattle.search.specs.Cases.{by_cond, both}
 use Rattle.outs.specs.Outs.{Strip}
@@ -140,8 +140,8 @@ head_clean l w =
     (clean_append (go l) (clean_append (words_clean (text ", rows waiting ") refl) (clean_append (decimal_clean w) end_clean)))
   where
     go : (l : Option ℕ) → Clean (last_text l)
-    go none = words_clean (text "none") refl
-    go (some n) = decimal_clean n
+    go None = words_clean (text "None") refl
+    go (Some n) = decimal_clean n
 
 -- a side's title
 title_clean : (label : List ℕ) (n : ℕ) → Clean label → Clean (title_text label n)

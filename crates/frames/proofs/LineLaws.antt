@@ -1,7 +1,7 @@
 -- A strip is shown in 17 lines, whoever is out and whatever the names, so that a frame can be drawn over the one before it; and a frame is never empty.
 use Rattle.std.specs.Prelude.{ℕ, zero, suc, ◌+◌, ◌/◌, ◌%◌, ◌<◌, ◌≡◌, refl, Bool, true, false, cond, List, [], ◌∷◌, ◌++◌, length, get_or, eqb, ltb}
 use Rattle.std.proofs.Common.{sym, ◌∙◌, ap, arith, ne_eqb}
-use Rattle.std.proofs.Math.Option.{Option, none, some}
+use Rattle.std.specs.Prelude.{Option, None, Some}
 use Rattle.search.specs.Cases.{by_cond}
 use Rattle.outs.specs.Outs.{Strip}
 use Rattle.frames.specs.Text.{text, decimal_in, decimal, is_control, shown, shown_from, shown_name}
@@ -65,8 +65,8 @@ lines_head l w =
     (arith, lines-append (last_text l) (text ", rows waiting " ++ (decimal w ++ line_end)), lines-append (decimal w) line_end, lines-decimal w, go l)
   where
     go : (l : Option ℕ) → lines (last_text l) ≡ 0
-    go none = refl
-    go (some n) = lines-decimal n
+    go None = refl
+    go (Some n) = lines-decimal n
 
 -- a player's line
 lines_player : (i : ℕ) (name : List ℕ) → lines (player_text i name) ≡ 1

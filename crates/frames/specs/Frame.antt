@@ -22,7 +22,7 @@
 --
 -- 17 lines, whoever is out, and then a line for each refused row of the batch. A name's line has 77 bytes at most.
 use Rattle.std.specs.Prelude.{ℕ, zero, suc, ◌+◌, cond, List, [], ◌++◌, length, get_or, ltb, eqb}
-use Rattle.std.proofs.Math.Option.{Option, none, some}
+use Rattle.std.specs.Prelude.{Option, None, Some}
 use Rattle.outs.specs.Outs.{Strip}
 use Rattle.frames.specs.Text.{text, decimal, shown_name}
 
@@ -34,8 +34,8 @@ line_end = text "\n"
 
 -- 02, K6: "the last accepted row's" number, where there is one
 unfoldable pub last_text : Option ℕ → List ℕ
-last_text none = text "none"
-last_text (some n) = decimal n
+last_text None = text "None"
+last_text (Some n) = decimal n
 
 -- that number, and how many rows wait behind the batch that was read
 unfoldable pub head_text : Option ℕ → ℕ → List ℕ

@@ -1,6 +1,6 @@
 -- A frame computed: names that are whole, a control byte, a byte that stands by itself, a letter of two bytes, refused rows.
 use Rattle.std.specs.Prelude.{◌≡◌, refl, [], ◌∷◌, ◌++◌}
-use Rattle.std.proofs.Math.Option.{some}
+use Rattle.std.specs.Prelude.{Some}
 use Rattle.outs.specs.Outs.{Strip, empty}
 use Rattle.frames.specs.Text.{text, decimal_in, decimal, is_control, shown, shown_from, shown_name}
 use Rattle.frames.specs.Frame.{
@@ -33,7 +33,7 @@ screens = refl
 
 -- Asha, then a name with a line end in it, are out at home, nobody away; 3 rows wait; of four rows the second is refused 35 and the fourth 31
 abbrev strip : Strip
-strip = record { last = some 27; first = (65 ∷ 115 ∷ 104 ∷ 97 ∷ []) ∷ (66 ∷ 10 ∷ 98 ∷ []) ∷ []; second = [] }
+strip = record { last = Some 27; first = (65 ∷ 115 ∷ 104 ∷ 97 ∷ []) ∷ (66 ∷ 10 ∷ 98 ∷ []) ∷ []; second = [] }
 
 -- its frame
 pub worked : frame_of strip 3 (0 ∷ 35 ∷ 0 ∷ 31 ∷ [])
@@ -60,7 +60,7 @@ unfolding frame_of strip_text rows_text row_text why_text which_text reason_text
 worked = refl
 
 -- before any row
-pub first_line : head_text empty.last 0 ≡ text "last row none, rows waiting 0\n"
+pub first_line : head_text empty.last 0 ≡ text "last row None, rows waiting 0\n"
 unfolding head_text last_text decimal decimal_in
 first_line = refl
 

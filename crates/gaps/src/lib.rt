@@ -5,11 +5,11 @@ ghost use Rattle.std.specs.Prelude.{◌≡◌, ◌+◌, ◌*◌, ◌≤◌, ◌<
 ghost use Rattle.books.specs.Entry.{used_of};
 ghost use Rattle.books.specs.Search.{lowest_free, lowest_gap, past_entry, swept_of};
 
-use books::{Entry, Found, Gap};
+use books::Entry;
 use counts::{BufferNumber, ByteCount, ByteSum};
 
 // The lowest free number below n.
-pub fn lowest_free(books: &[u8], n: u32) -> Found
+pub fn lowest_free(books: &[u8], n: u32) -> Option<BufferNumber>
     requires { (used_of books.now ≤ n) × (4 + 20 * n ≤ length books.now) }
     ensures { result ≡ lowest_free books.now n }
 {
@@ -17,14 +17,14 @@ pub fn lowest_free(books: &[u8], n: u32) -> Found
     let mut i: u32 = 0;
     while i < used {
         if books::is_free(books::entry_at(books, BufferNumber(i))) {
-            return Found::At(BufferNumber(i));
+            return Some(BufferNumber(i));
         }
         i += 1;
     }
     if used < n {
-        Found::At(BufferNumber(used))
+        Some(BufferNumber(used))
     } else {
-        Found::Nothing
+        None
     }
 }
 
@@ -59,22 +59,22 @@ fn sweep(books: &[u8], at: u64, size: ByteSum) -> u64
 }
 
 // The lowest start of `size` bytes within the pool that share no byte with a live buffer. Sweeps until one changes nothing.
-pub fn lowest_gap(books: &[u8], pool: ByteCount, size: ByteSum) -> Gap
+pub fn lowest_gap(books: &[u8], pool: ByteCount, size: ByteSum) -> Option<u32>
     requires { 4 + 20 * used_of books.now ≤ length books.now }
     ensures { result ≡ lowest_gap books.now pool.0 size.0 }
 {
     let want = size.0;
     let end = pool.0 as u64;
     if end < want {
-        return Gap::Nothing;
+        return None;
     }
     let mut at: u64 = 0;
     while at <= end - want {
         let next = sweep(books, at, size);
         if next == at {
-            return Gap::Start(at as u32);
+            return Some(at as u32);
         }
         at = next;
     }
-    Gap::Nothing
+    None
 }

@@ -2,7 +2,7 @@
 use Rattle.std.specs.Prelude.{ℕ, ◌+◌, ◌≤◌, ◌<◌, ◌≡◌, refl, Bool, cond, List, ltb, leb, eqb}
 use Rattle.std.proofs.Common.{arith}
 use Rattle.std.proofs.Math.Bool.{true, false}
-use Rattle.std.proofs.Math.Option.{some}
+use Rattle.std.specs.Prelude.{Some}
 use Rattle.std.proofs.Math.Decide.{dec_lt}
 use Rattle.std.proofs.Math.ListN.{length}
 use borrow.Author.Tests.{lt-ltb, le-leb, lt-leb, eq-eqb}
@@ -48,7 +48,7 @@ module _ {w : World} (g : Between w) (slot c i : ℕ) (p : slot ≤ w.state.queu
   unfolding buffer_call part_of filled_bytes
   read_back = rw (eq-eqb (tested w) 0 (between-tested g), there)
 
-  pub number_reads : CanRead w (some k)
+  pub number_reads : CanRead w (Some k)
   number_reads = (readable, read_back)
 
 module _ {w : World} (g : Between w) (bytes : Bytes w.slots) (c i : ℕ) (h : is_row w c i ≡ true) where

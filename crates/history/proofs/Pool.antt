@@ -6,7 +6,6 @@ use Rattle.std.proofs.Math.Decide.{ℕ_discrete}
 use Rattle.search.specs.Cases.{by_cond}
 use Rattle.counts.specs.declared.BufferNumber.{BufferNumber}
 use Rattle.sound.specs.Sound.{filled_bytes}
-use Rattle.pool.specs.declared.Registered.{Registered}
 use Rattle.pool.specs.Register.{is_held}
 use Rattle.pool.specs.Read.{part_of}
 use Rattle.state.specs.World.{World}
@@ -32,6 +31,7 @@ use Rattle.history.specs.Call.{Call, push, finish, drop, register, let_go, limit
 use Rattle.history.specs.Law.{run_law}
 use Rattle.history.proofs.CallLaws.{call_law}
 use Rattle.history.specs.Pool.{NeverLetGo, PoolChanges}
+use Rattle.std.specs.Prelude.{Ok}
 
 -- ---- what each call leaves of the pool
 
@@ -114,13 +114,13 @@ held_keeps w (c ∷ cs) k g h n =
     held_trans s (held_keeps (step w c).world cs k t s.held n.1)
 
 -- what registering answered is held, and filled with the bytes
-registering-new : (w : World) (bytes : List ℕ) (capacity : ℕ) (k : BufferNumber) → Between w → (register_call w bytes capacity).answer ≡ Registered.Number k → NewlyHeld (register_call w bytes capacity).world.pool (register_call w bytes capacity).world.books bytes k.0
+registering-new : (w : World) (bytes : List ℕ) (capacity : ℕ) (k : BufferNumber) → Between w → (register_call w bytes capacity).answer ≡ Ok k → NewlyHeld (register_call w bytes capacity).world.pool (register_call w bytes capacity).world.books bytes k.0
 registering-new w bytes capacity k g e =
     rw (register_steps w bytes capacity (between-tested g))
     (register_new g bytes capacity k (sym (ap (λ r. r.answer) (register_steps w bytes capacity (between-tested g))) ∙ e))
 
 -- so a read of a buffer hands back the bytes that were registered, until it is let go
-pub registered_reads : (w : World) (bytes : List ℕ) (capacity : ℕ) (k : BufferNumber) (cs : List Call) → Between w → (register_call w bytes capacity).answer ≡ Registered.Number k → NeverLetGo k.0 cs → buffer_call (run (register_call w bytes capacity).world cs).world k.0 ≡ bytes
+pub registered_reads : (w : World) (bytes : List ℕ) (capacity : ℕ) (k : BufferNumber) (cs : List Call) → Between w → (register_call w bytes capacity).answer ≡ Ok k → NeverLetGo k.0 cs → buffer_call (run (register_call w bytes capacity).world cs).world k.0 ≡ bytes
 unfolding step
 registered_reads w bytes capacity k cs g e n = read_held u k.0 between s.held ∙ s.bytes ∙ new.filled
   where

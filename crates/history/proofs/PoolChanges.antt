@@ -5,7 +5,6 @@ use Rattle.std.proofs.Math.Decide.{ℕ_discrete}
 use Rattle.search.specs.Cases.{by_cond}
 use Rattle.counts.specs.declared.BufferNumber.{BufferNumber}
 use Rattle.sound.specs.Sound.{filled_bytes}
-use Rattle.pool.specs.declared.Registered.{Registered}
 use Rattle.pool.specs.Register.{is_held}
 use Rattle.pool.specs.Read.{part_of}
 use Rattle.state.specs.World.{World}

@@ -4,7 +4,7 @@ use Rattle.std.proofs.Math.Path.{refl, ap}
 use Rattle.std.proofs.Common.{sym, ◌∙◌, arith}
 use Rattle.std.proofs.Math.Bool.{true, false, and-eq-true_iff}
 use mathlib.Core.List.{List, []}
-use Rattle.std.proofs.Math.Option.{some}
+use Rattle.std.specs.Prelude.{Some}
 use Rattle.std.proofs.Math.Decide.{dec_lt}
 use Rattle.std.proofs.Math.Dec.{ltb}
 use borrow.Author.Tests.{ltb-true, lt-ltb, le-leb, lt-leb, eq-eqb}
@@ -72,28 +72,28 @@ module _ {w : World} (g : Between w) (bytes : Bytes w.slots) (c i : ℕ) (h : is
       (g.holding.valid front c i front_in is.column y (omega (arith, is.row, rows_other w (λ d. w.state.buffered.0) front c front_other)))
 
   -- a view's answer is what it shows
-  view_reads : is_views w.state c ≡ true → read_as w (view_answer w front c at view) ≡ some (value (shows view (buffer_at w front c)))
+  view_reads : is_views w.state c ≡ true → read_as w (view_answer w front c at view) ≡ Some (value (shows view (buffer_at w front c)))
   unfolding view_answer
   view_reads y = go (dec_lt 12 view.length)
     where
-      go : Dec (12 < view.length) → read_as w (view_answer w front c at view) ≡ some (value (shows view (buffer_at w front c)))
+      go : Dec (12 < view.length) → read_as w (view_answer w front c at view) ≡ Some (value (shows view (buffer_at w front c)))
       go (no d) =
           rw (le-leb view.length 12 (omega arith))
-          (ap (λ (l : List ℕ). some (value l)) (sym (inline_read w.slots at (buffer_at w front c) bytes (omega (arith, in_slots_lem, views_width w.state c y)) (omega arith))))
+          (ap (λ (l : List ℕ). Some (value l)) (sym (inline_read w.slots at (buffer_at w front c) bytes (omega (arith, in_slots_lem, views_width w.state c y)) (omega arith))))
       go (yes d) =
           let p = long-says view (buffer_at w front c) (list_length w front c) d (valid y) in
           let r : view.index < reach w front c = omega (arith, p.below, reach_other w front c y front_other) in
           let b : buffer_at w front c view.index ≡ filled_bytes w.books w.pool (listed_at w front c view.index) = buffer_number_lem w front c view.index r ∙ ap (filled_bytes w.books w.pool) (number-listed w front c view.index p.below) in
           rw (lt-leb view.length 12 d, lt-ltb view.index (list_length w front c) p.below)
-          (ap (λ (l : List ℕ). some (value l)) (sym (shows-long view (buffer_at w front c) d ∙ ap (read view.offset view.length) b)))
+          (ap (λ (l : List ℕ). Some (value l)) (sym (shows-long view (buffer_at w front c) d ∙ ap (read view.offset view.length) b)))
 
   -- every row reads as its cell
-  pub read_cell : read_as w (read_row w c i) ≡ some (slot_cell w front c i)
+  pub read_cell : read_as w (read_row w c i) ≡ Some (slot_cell w front c i)
   unfolding read_row value_answer slot_cell cell_of
   read_cell =
       rw (eq-eqb _ _ (between-tested g), h) (by_bit (eqb (bits_from w.slots (bitmap_place w.state front c) 0 i) 0) (is_views w.state c) refl)
     where
-      by_bit : (b v : Bool) → is_views w.state c ≡ v → read_as w (cond b RowAnswer.Null (cond v (view_answer w front c at view) (RowAnswer.Value (Place.InRow at (record { 0 = width_of w.state c }))))) ≡ some (cond b null (cond v (value (shows view (buffer_at w front c))) (value (read at (width_of w.state c) w.slots))))
+      by_bit : (b v : Bool) → is_views w.state c ≡ v → read_as w (cond b RowAnswer.Null (cond v (view_answer w front c at view) (RowAnswer.Value (Place.InRow at (record { 0 = width_of w.state c }))))) ≡ Some (cond b null (cond v (value (shows view (buffer_at w front c))) (value (read at (width_of w.state c) w.slots))))
       by_bit true v y = refl
       by_bit false true y = view_reads y
       by_bit false false y = refl
@@ -114,8 +114,8 @@ module _ (a : Wanted) (slots pool books : List ℕ) (ok : (set_up_call a slots p
       (all a slots pool books ok cs).bytes
       (rw (ap (λ (r : Answered). r.world.slots) (set_up_done a slots pool books (set_up_zero a slots pool books ok))) bytes)
 
-  pub reads_taken : (c i : ℕ) → is_row last c i ≡ true → read_as last (read_row last c i) ≡ some (get_or (get_or (taken_rows last) i []) c null)
+  pub reads_taken : (c i : ℕ) → is_row last c i ≡ true → read_as last (read_row last c i) ≡ Some (get_or (get_or (taken_rows last) i []) c null)
   reads_taken c i h =
       let g : Between last = (all a slots pool books ok cs).between in
       let z : Is g last-bytes c i h = is g last-bytes c i h in
-      read_cell g last-bytes c i h ∙ ap some (sym (taken_at last c i z.column z.row))
+      read_cell g last-bytes c i h ∙ ap Some (sym (taken_at last c i z.column z.row))

@@ -1,12 +1,13 @@
 -- A history: the calls after a set-up, refused ones among them, with the rows that they accept and the batches that they take.
 use Rattle.std.specs.Prelude.{ℕ, zero, suc, Bool, true, false, List, [], ◌∷◌, ◌++◌, eqb}
 use Rattle.words.specs.WordLaws.{Bytes}
-use Rattle.state.specs.declared.Limit.{Limit}
 use Rattle.state.specs.World.{World}
 use Rattle.state.specs.Rows.{Row, taken_rows}
 use Rattle.rules.specs.Batch.{Batch, batch_rows}
 use Rattle.rules.specs.Steps.{with_limit, in_state}
 use Rattle.rules.specs.Calls.{push_call, finish_call, drop_call, register_call, let_go_call}
+use Rattle.std.specs.Prelude.{Option}
+use Rattle.counts.specs.declared.RowCount.{RowCount}
 
 -- the body of a batch is of bytes, as every slice of the machine is
 pub record OfBytes (b : Batch) : Type 0 where
@@ -19,7 +20,7 @@ pub data Call : Type 0 where
   drop : Call
   register : (bytes : List ℕ) (capacity : ℕ) → Call
   let_go : (number : ℕ) → Call
-  limit : Limit → Call
+  limit : Option RowCount → Call
   -- a read of a row, of a buffer, of a count or of the limit
   read : Call
 

@@ -2,7 +2,6 @@
 use Rattle.std.specs.Prelude.{ℕ, ◌≡◌, refl, ◌≢◌, Bool, true, false, cond, List, [], ◌∷◌, length, ltb}
 use Rattle.std.proofs.Common.{◌∙◌, ap, arith}
 use Rattle.state.specs.World.{World}
-use Rattle.room.specs.declared.Chosen.{Chosen}
 use Rattle.room.specs.Room.{chosen}
 use Rattle.pool.specs.Register.{refusal_of, refused, settled_at, registered}
 use Rattle.rules.specs.Batch.{Batch}
@@ -16,15 +15,17 @@ use Rattle.invariant.proofs.Calls.FinishAfter.{finished-after}
 use Rattle.invariant.proofs.Calls.PushAfter.{refusals, pushed-after}
 use Rattle.invariant.proofs.Calls.Tested.{between-tested}
 use Rattle.history.specs.Call.{OfBytes}
+use Rattle.std.specs.Prelude.{Result, Ok, Err}
+use Rattle.room.specs.declared.Room.{Room}
 
 -- what registering answers behind the tests: a number, or 13, 11, 12
 outcome_refusals : (s p : List ℕ) (n : ℕ) (bytes : List ℕ) (capacity : ℕ) → refusal_of (registered s p n bytes capacity).answer ≢ 0 → Among (11 ∷ 12 ∷ 13 ∷ []) (refusal_of (registered s p n bytes capacity).answer)
 unfolding registered
 outcome_refusals s p n bytes capacity = go (ltb capacity (length bytes))
   where
-    chose : (x : Chosen) → chosen s n (length p) capacity ≡ x → refusal_of (settled_at s p bytes capacity x).answer ≢ 0 → Among (11 ∷ 12 ∷ 13 ∷ []) (refusal_of (settled_at s p bytes capacity x).answer)
-    chose (Chosen.Refused m) e d = among-more (11 ∷ 12 ∷ 13 ∷ []) tt (chosen-among s n (length p) capacity m e)
-    chose (Chosen.At r) e d = absurd (d refl)
+    chose : (x : Result Room ℕ) → chosen s n (length p) capacity ≡ x → refusal_of (settled_at s p bytes capacity x).answer ≢ 0 → Among (11 ∷ 12 ∷ 13 ∷ []) (refusal_of (settled_at s p bytes capacity x).answer)
+    chose (Err m) e d = among-more (11 ∷ 12 ∷ 13 ∷ []) tt (chosen-among s n (length p) capacity m e)
+    chose (Ok r) e d = absurd (d refl)
 
     go : (b : Bool) → refusal_of (cond b (refused s p 13) (settled_at s p bytes capacity (chosen s n (length p) capacity))).answer ≢ 0 → Among (11 ∷ 12 ∷ 13 ∷ []) (refusal_of (cond b (refused s p 13) (settled_at s p bytes capacity (chosen s n (length p) capacity))).answer)
     go true d = one_of (11 ∷ 12 ∷ 13 ∷ []) 13 tt

@@ -16,7 +16,6 @@ use Rattle.rules.specs.Steps.{ok}
 use Rattle.rules.specs.Views.{span, has_block, is_open, open_rest, closed, block_opened, part_compacted}
 use Rattle.state.specs.declared.BatchCoalescer.{BatchCoalescer}
 use Rattle.state.specs.declared.Column.{Column}
-use Rattle.state.specs.declared.OpenBlock.{OpenBlock}
 use Rattle.state.specs.World.{World, world, column_of}
 use Rattle.state.proofs.LayoutLaws.{views_width}
 use Rattle.rules.specs.declared.Step.{Step}
@@ -30,6 +29,7 @@ use Rattle.open_blocks.specs.Open.{Booked, FillingViews, ClosesBlock, OpensBlock
 use Rattle.in_progress.specs.Part.{ViewPart, RoomInOpen, Walks, first_rows, rows_behind, long_of, compacting, opened_for, walked_of, walked_on}
 use Rattle.open_blocks.specs.AskLaws.{run-booked}
 use Rattle.in_progress.specs.AlongLaws.{views_on, long_on, first_part, behind_part, long_both, long-ideal, closed_along, opened-fits, compacted_along}
+use Rattle.std.specs.Prelude.{Option, Some, None}
 
 -- ---- open_and_copy
 
@@ -156,20 +156,20 @@ module _ {s : BatchCoalescer} {slots pool books : List ℕ} {b : Batch} {r : Col
   abbrev u : World
   u = world s slots pool books
 
-  open_is : {o : OpenBlock} → block.block ≡ o → is_open u p.column ≡ has_block o
+  open_is : {o : Option BufferNumber} → block.block ≡ o → is_open u p.column ≡ has_block o
   open_is q = ap has_block (sym (ap (λ (z : Column). z.block) e) ∙ q)
 
   pub compact_long : long_of u b p ≤ n
   compact_long = omega (arith, long-ideal x)
 
-  none_open : block.block ≡ OpenBlock.Closed → part_compacted u b (span p.column p.at p.from p.count.0) ≡ opened_for u b n p
+  none_open : block.block ≡ None → part_compacted u b (span p.column p.at p.from p.count.0) ≡ opened_for u b n p
   unfolding part_compacted opened_for compacting
   none_open q = rw (open_is q, i)
 
-  pub compact_new : {q : Step} {slots' pool' books' : List ℕ} → block.block ≡ OpenBlock.Closed → Steps (opened_for u b n p) q slots' pool' books' → Steps (part_compacted u b (span p.column p.at p.from p.count.0)) q slots' pool' books'
+  pub compact_new : {q : Step} {slots' pool' books' : List ℕ} → block.block ≡ None → Steps (opened_for u b n p) q slots' pool' books' → Steps (part_compacted u b (span p.column p.at p.from p.count.0)) q slots' pool' books'
   compact_new q z = rw (none_open q) z
 
-  module _ {k : BufferNumber} (q : block.block ≡ OpenBlock.Number k) where
+  module _ {k : BufferNumber} (q : block.block ≡ Some k) where
     pub compact_entry : 24 + 20 * k.0 ≤ length books
     compact_entry =
         let l = open_entry p.column x.part.run x.part.column x.views (open_is q) in

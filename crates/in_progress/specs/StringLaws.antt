@@ -24,7 +24,6 @@ use Rattle.rules.specs.Steps.{ok}
 use Rattle.rules.specs.Views.{has_block, block_number, open_number, open_filled, source_place, views_from, long_before, views_compacted}
 use Rattle.state.specs.declared.BatchCoalescer.{BatchCoalescer}
 use Rattle.state.specs.declared.Column.{Column}
-use Rattle.state.specs.declared.OpenBlock.{OpenBlock}
 use Rattle.state.specs.World.{World, world, column_of}
 use Rattle.state.specs.Layout.{width_of, cell_place, list_length}
 use Rattle.state.proofs.LayoutLaws.{views_width}
@@ -32,6 +31,7 @@ use Rattle.push_safety.specs.CallerLaws.{run_bounds, pool_small, cells_room, val
 use Rattle.push_safety.specs.BlockGoes.{open_entry, open_inside}
 use Rattle.columns.specs.SourceLaws.{list_same, sourceable}
 use Rattle.in_progress.specs.Part.{RoomInOpen, long_of, compacting}
+use Rattle.std.specs.Prelude.{Some, None}
 
 -- ---- the world that is made, of the views, of where their bytes lie, and of numbers
 
@@ -55,7 +55,7 @@ module _ (w : World) (b : Batch) (p : Rows) where
   unfolding compacting views_compacted made long_before
   made-compacting e = rw e
 
-pub open_number_at : (s : BatchCoalescer) (slots pool books : List ℕ) (c : ℕ) {k : BufferNumber} → (column_of s c).block ≡ OpenBlock.Number k → open_number (world s slots pool books) c ≡ k.0
+pub open_number_at : (s : BatchCoalescer) (slots pool books : List ℕ) (c : ℕ) {k : BufferNumber} → (column_of s c).block ≡ Some k → open_number (world s slots pool books) c ≡ k.0
 unfolding open_number
 open_number_at s slots pool books c o = ap block_number o
 
@@ -150,7 +150,7 @@ module _ {w : World} {b : Batch} {r : ColumnRecord} {p : Rows} (x : RoomInOpen w
 
 -- ---- the same as the code has it
 
-module _ (s : BatchCoalescer) (slots pool books records body : List ℕ) (rows : ℕ) (r : ColumnRecord) (p : Rows) (k : BufferNumber) (x : RoomInOpen (world s slots pool books) (batch rows records body) r p) (o : (column_of s p.column).block ≡ OpenBlock.Number k) where
+module _ (s : BatchCoalescer) (slots pool books records body : List ℕ) (rows : ℕ) (r : ColumnRecord) (p : Rows) (k : BufferNumber) (x : RoomInOpen (world s slots pool books) (batch rows records body) r p) (o : (column_of s p.column).block ≡ Some k) where
   abbrev w : World
   w = world s slots pool books
 
@@ -190,8 +190,8 @@ module _ (s : BatchCoalescer) (slots pool books records body : List ℕ) (rows :
         ∙ rw (q, u, v, f))
 
 -- copy_into_open: its block is not closed
-pub block_open : {s : BatchCoalescer} {slots pool books : List ℕ} {b : Batch} {r : ColumnRecord} {p : Rows} {block : Column} → RoomInOpen (world s slots pool books) b r p → block ≡ column_of s p.column → block.block ≡ OpenBlock.Closed → ⊥
+pub block_open : {s : BatchCoalescer} {slots pool books : List ℕ} {b : Batch} {r : ColumnRecord} {p : Rows} {block : Column} → RoomInOpen (world s slots pool books) b r p → block ≡ column_of s p.column → block.block ≡ None → ⊥
 block_open x e q = true≢false (sym x.is_open_lem ∙ ap has_block (sym (ap (λ (z : Column). z.block) e) ∙ q))
 
-pub block_at : (s : BatchCoalescer) (c : ℕ) {block : Column} {k : BufferNumber} → block ≡ column_of s c → block.block ≡ OpenBlock.Number k → (column_of s c).block ≡ OpenBlock.Number k
+pub block_at : (s : BatchCoalescer) (c : ℕ) {block : Column} {k : BufferNumber} → block ≡ column_of s c → block.block ≡ Some k → (column_of s c).block ≡ Some k
 block_at s c e q = sym (ap (λ (z : Column). z.block) e) ∙ q

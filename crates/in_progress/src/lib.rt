@@ -3,7 +3,7 @@
 #![tactic(auto)]
 
 ghost use Rattle.std.specs.Prelude.{◌≡◌, [], ◌+◌, ◌*◌, ◌-◌, ◌≤◌, ◌<◌, length};
-ghost use Rattle.state.specs.declared.OpenBlock.{OpenBlock};
+ghost use Rattle.std.specs.Prelude.{Some};
 ghost use Rattle.state.specs.World.{world, column_of};
 ghost use Rattle.state.specs.Layout.{list_length};
 ghost use Rattle.rules.specs.declared.Way.{Way};
@@ -17,7 +17,7 @@ use byte_view::{Copying, Source};
 use counts::{BufferNumber, ByteSum, RowCount};
 use primitive::Rows;
 use rules::{ColumnRecord, Step, Way};
-use state::{BatchCoalescer, OpenBlock};
+use state::BatchCoalescer;
 
 // The views of a part, with their bytes in block k.
 fn copy_strings(
@@ -77,8 +77,8 @@ fn copy_into_open(
     let column = layout::column_of(s, p.column);
     let block = column.block;
     match block {
-        OpenBlock::Closed => {}
-        OpenBlock::Number(k) => {
+        None => {}
+        Some(k) => {
             copy_strings(s, slots, pool, books, records, body, rows, r, p, k)
         }
     }
@@ -211,10 +211,10 @@ fn append_views_and_copy_strings(
     let column = layout::column_of(s, p.column);
     let block = column.block;
     match block {
-        OpenBlock::Closed => {
+        None => {
             open_and_copy(s, slots, pool, books, records, body, rows, r, p, ideal)
         }
-        OpenBlock::Number(k) => {
+        Some(k) => {
             let rest = columns::rest_of(books, k);
             if ideal.0 <= rest.0 {
                 copy_strings(s, slots, pool, books, records, body, rows, r, p, k);

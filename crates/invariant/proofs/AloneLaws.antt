@@ -7,7 +7,6 @@ use Rattle.counts.specs.declared.BufferNumber.{BufferNumber}
 use Rattle.blocks.specs.declared.BufferSource.{BufferSource}
 use Rattle.books.specs.Entry.{entry_of, is_free}
 use Rattle.state.specs.declared.BatchCoalescer.{BatchCoalescer}
-use Rattle.state.specs.declared.OpenBlock.{OpenBlock}
 use Rattle.state.specs.World.{World, column_of}
 use Rattle.state.specs.Layout.{is_views, list_length}
 use Rattle.rules.specs.Calls.{Wanted, columns_for, new_state}
@@ -18,6 +17,7 @@ use Rattle.rules.specs.SameLaws.{same_views}
 use Rattle.invariant.specs.Holding.{reach, number_at, listings, HasOpen, Alone, Holding}
 use Rattle.invariant.proofs.Rests.{reach_open, number_open}
 use Rattle.invariant.proofs.CountLaws.{listed_counted, number-below, number_live}
+use Rattle.std.specs.Prelude.{Option, Some, None}
 
 -- ---- an open block is listed, so in use
 
@@ -46,7 +46,7 @@ module _ {w : World} {ext : ℕ → ℕ} (a : Holding w ext) (c k : ℕ) (o : Ha
 
 -- ---- as many columns as before
 
-pub column-length : (s : BatchCoalescer) (c : ℕ) (source : BufferSource) (block : OpenBlock) → length (with_column s c source block).column ≡ length s.column
+pub column-length : (s : BatchCoalescer) (c : ℕ) (source : BufferSource) (block : Option BufferNumber) → length (with_column s c source block).column ≡ length s.column
 column-length s c source block = simp length-set
 
 columns_length : (kinds : List ℕ) (n : ℕ) → length (columns_for kinds n) ≡ n
@@ -61,7 +61,7 @@ new_sixteen a = columns_length a.kinds 16
 
 -- ---- no two the same
 
-pub not_open_lem : (k : BufferNumber) → OpenBlock.Closed ≡ OpenBlock.Number k → ⊥
+pub not_open_lem : (k : BufferNumber) → None ≡ Some k → ⊥
 not_open_lem k e = let z : ◌≡◌ {A = ℕ} 0 1 = cc in omega arith
 
 -- columns as they were

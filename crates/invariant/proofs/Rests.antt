@@ -16,7 +16,6 @@ use Rattle.sound.specs.Sound.{filled_bytes}
 use Rattle.views.specs.View.{view_of, is_valid, shows}
 use Rattle.views.specs.StoreLaws.{agrees_view}
 use Rattle.views.specs.ShowLaws.{Keeps}
-use Rattle.state.specs.declared.OpenBlock.{OpenBlock}
 use Rattle.state.specs.World.{World, column_of}
 use Rattle.state.specs.Layout.{width_of, is_views, bitmap_place, cell_place, slots_length, list_length}
 use Rattle.state.proofs.LayoutLaws.{views_width, cell_in}
@@ -26,6 +25,8 @@ use Rattle.rules.specs.Stays.{SameSetUp}
 use Rattle.rules.specs.SameLaws.{same_width, same_views, same_bitmap_place, same_cell_place}
 use Rattle.invariant.specs.Holding.{reach, number_at, Begins, Stands}
 use Rattle.invariant.proofs.BeginLaws.{keeps_begins}
+use Rattle.std.specs.Prelude.{Option, Some, None}
+use Rattle.counts.specs.declared.BufferNumber.{BufferNumber}
 
 -- ---- how far a list reaches, and the number at each index
 
@@ -71,9 +72,9 @@ module _ (w : World) (slot c : ℕ) where
       go true false p z q r = absurd (omega arith)
       go false y p z q r = absurd (omega arith)
 
-  open_bytes_lem : (o : OpenBlock) → has_block o ≡ true → open_bytes w o ≡ filled_bytes w.books w.pool (block_number o)
-  open_bytes_lem (OpenBlock.Number k) e = refl
-  open_bytes_lem OpenBlock.Closed e = absurd (true≢false (sym e))
+  open_bytes_lem : (o : Option BufferNumber) → has_block o ≡ true → open_bytes w o ≡ filled_bytes w.books w.pool (block_number o)
+  open_bytes_lem (Some k) e = refl
+  open_bytes_lem None e = absurd (true≢false (sym e))
 
   -- the buffer at an index within reach is that of its number
   pub buffer_number_lem : (i : ℕ) → i < reach w slot c → buffer_at w slot c i ≡ filled_bytes w.books w.pool (number_at w slot c i)

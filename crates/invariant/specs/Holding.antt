@@ -7,13 +7,13 @@ use Rattle.blocks.specs.BlockLaws.{Power}
 use Rattle.books.specs.Entry.{entry_of, is_free}
 use Rattle.sound.specs.Sound.{Sound, filled_bytes}
 use Rattle.state.specs.declared.BatchCoalescer.{BatchCoalescer}
-use Rattle.state.specs.declared.OpenBlock.{OpenBlock}
 use Rattle.state.specs.World.{World, column_of}
 use Rattle.state.specs.Layout.{is_views, bitmap_place, cell_place, rows_in, list_length, queued_slot}
 use Rattle.state.specs.Rows.{listed_at, buffer_at}
 use Rattle.rules.specs.Batch.{sum_to}
 use Rattle.rules.specs.Views.{is_open, open_number}
 use Rattle.push_safety.specs.Run.{Run}
+use Rattle.std.specs.Prelude.{Some}
 
 -- ---- the numbers that a slot lists
 
@@ -42,7 +42,7 @@ listings w k = sum_to (w.state.queue + 1) (λ slot. sum_to w.state.columns (λ c
 pub record HasOpen (s : BatchCoalescer) (c k : ℕ) : Type 0 where
   pub column : c < s.columns
   pub views : is_views s c ≡ true
-  pub block : (column_of s c).block ≡ OpenBlock.Number (record { 0 = k })
+  pub block : (column_of s c).block ≡ Some (record { 0 = k })
 
 -- no two columns have the same
 pub record Alone (s : BatchCoalescer) : Type 0 where

@@ -2,7 +2,7 @@
 use Rattle.std.specs.Prelude.{ℕ, ◌≡◌, ◌≢◌, true, List, []}
 use Rattle.std.proofs.Math.Path.{refl}
 use Rattle.std.proofs.Common.{sym, ◌∙◌, ap, arith}
-use Rattle.std.proofs.Math.Option.{Option, none, some}
+use Rattle.std.specs.Prelude.{Option, None, Some}
 use Rattle.std.proofs.Math.Decide.{ℕ_discrete}
 use borrow.Author.Tests.{ne_eqb}
 use Rattle.words.specs.WordLaws.{Bytes}
@@ -42,7 +42,7 @@ module _ (s : BatchCoalescer) (slots pool books : List ℕ) {n : ℕ} (e : n ≡
 
 -- ---- the exits of judge: n is what the tests answered, f the fault
 
-fault-some : (w : World) (b : Batch) (f : Fault) → batch_fault w b ≡ some f → f.number ≢ 0
+fault-some : (w : World) (b : Batch) (f : Fault) → batch_fault w b ≡ Some f → f.number ≢ 0
 fault-some w b f e = among_not 0 refl (fault-number w b f e)
 
 module _ (s : BatchCoalescer) (slots pool books records body : List ℕ) (rows : ℕ) {n : ℕ} (e : n ≡ tested (world s slots pool books)) where
@@ -67,16 +67,16 @@ module _ (s : BatchCoalescer) (slots pool books records body : List ℕ) (rows :
       judge_go q = go (batch_fault (world s slots pool books) (batch rows records body)) refl ∙ judged
         where
           go : (o : Option Fault) → batch_fault (world s slots pool books) (batch rows records body) ≡ o → Verdict.Go ≡ of_fault (batch_fault (world s slots pool books) (batch rows records body))
-          go none x = rw x
-          go (some g) x =
+          go None x = rw x
+          go (Some g) x =
               absurd (fault-some (world s slots pool books) (batch rows records body) g x (sym (ap (λ (y : Fault). y.number) (fault_is ∙ ap fault_of x)) ∙ q))
 
       pub judge_fault : (f.number ≡ 0 → ⊥) → Verdict.Refused f.number ≡ verdict_of (world s slots pool books) (batch rows records body)
       judge_fault q = go (batch_fault (world s slots pool books) (batch rows records body)) refl ∙ judged
         where
           go : (o : Option Fault) → batch_fault (world s slots pool books) (batch rows records body) ≡ o → Verdict.Refused f.number ≡ of_fault (batch_fault (world s slots pool books) (batch rows records body))
-          go none x = absurd (q (ap (λ (y : Fault). y.number) (fault_is ∙ ap fault_of x)))
-          go (some g) x = rw x (ap (λ (y : Fault). Verdict.Refused y.number) (fault_is ∙ ap fault_of x))
+          go None x = absurd (q (ap (λ (y : Fault). y.number) (fault_is ∙ ap fault_of x)))
+          go (Some g) x = rw x (ap (λ (y : Fault). Verdict.Refused y.number) (fault_is ∙ ap fault_of x))
 
 pub judges : {s : BatchCoalescer} {slots pool books : List ℕ} {b : Batch} {v : Verdict} → v ≡ verdict_of (world s slots pool books) b → Bytes books → Judges s slots pool books b v
 judges e b = record { verdict_is = e; bytes = b }
@@ -91,8 +91,8 @@ turn (Verdict.Refused n) = 2
 
 pub record MayGoOn (w : World) (b : Batch) : Type 0 where
   pub passed : tested w ≡ 0
-  pub some : b.rows ≢ 0
-  pub faultless : batch_fault w b ≡ none
+  pub Some : b.rows ≢ 0
+  pub faultless : batch_fault w b ≡ None
 
 module _ (w : World) (b : Batch) where
   -- one of the three, with what it says of the call
@@ -108,9 +108,9 @@ module _ (w : World) (b : Batch) where
       go : Dec (tested w ≡ 0) → Dec (b.rows ≡ 0) → (o : Option Fault) → batch_fault w b ≡ o → VerdictCase
       go (no p) d o x = refuses (tested w) (rw (ne_eqb (tested w) 0 p)) (rw (ne_eqb (tested w) 0 p, pushed))
       go (yes p) (yes q) o x = nothing (rw (p, q)) (rw (p, q, pushed))
-      go (yes p) (no q) none x =
-          goes (rw (p, ne_eqb b.rows 0 q, x)) (record { passed = p; some = q; faultless = x }) (rw (p, ne_eqb b.rows 0 q, x, pushed))
-      go (yes p) (no q) (some f) x =
+      go (yes p) (no q) None x =
+          goes (rw (p, ne_eqb b.rows 0 q, x)) (record { passed = p; Some = q; faultless = x }) (rw (p, ne_eqb b.rows 0 q, x, pushed))
+      go (yes p) (no q) (Some f) x =
           refuses f.number (rw (p, ne_eqb b.rows 0 q, x)) (rw (p, ne_eqb b.rows 0 q, x, pushed))
 
   pub verdict_go : verdict_of w b ≡ Verdict.Go → MayGoOn w b

@@ -1,6 +1,6 @@
 -- The tests of a push, by cases.
 use Rattle.std.specs.Prelude.{ℕ, ◌≡◌, cond, List, eqb}
-use Rattle.std.proofs.Math.Option.{Option, none, some}
+use Rattle.std.specs.Prelude.{Option, None, Some}
 use Rattle.words.specs.WordLaws.{Bytes}
 use Rattle.state.specs.declared.BatchCoalescer.{BatchCoalescer}
 use Rattle.state.specs.World.{World, world}
@@ -12,8 +12,8 @@ use Rattle.judging.specs.declared.Verdict.{Verdict}
 
 -- the first fault of a batch refuses it by its number; with none the push goes on
 abbrev pub of_fault : Option Fault → Verdict
-of_fault none = Verdict.Go
-of_fault (some f) = Verdict.Refused f.number
+of_fault None = Verdict.Go
+of_fault (Some f) = Verdict.Refused f.number
 
 -- 01: "Order for a push: 1, 14, then step 1, then 2, 3, then per column 4, 5, 6, and 7 by rows."; step 1: "0 rows: done, nothing changes,
 -- before any batch check."

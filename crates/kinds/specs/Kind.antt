@@ -1,7 +1,6 @@
 -- The kinds of columns: 01's table of numbers, types and widths.
 use Rattle.std.specs.Prelude.{ℕ, zero, suc, ◌/◌, Bool, true, false, List, [], ◌∷◌}
-use Rattle.std.proofs.Math.Option.{Option, none, some}
-use Rattle.kinds.specs.declared.Width.{Width}
+use Rattle.std.specs.Prelude.{Option, None, Some}
 
 -- the types of 01's table
 pub data Kind : Type 0 where
@@ -52,26 +51,26 @@ shown view = true
 
 -- the kind at a place of a list, if there is one
 abbrev pub place : List Kind → ℕ → Option Kind
-place [] i = none
-place (k ∷ ks) zero = some k
+place [] i = None
+place (k ∷ ks) zero = Some k
 place (k ∷ ks) (suc i) = place ks i
 
 -- the kind with a number, if there is one
 unfoldable pub kind_of : ℕ → Option Kind
-kind_of zero = none
+kind_of zero = None
 kind_of (suc i) = place kinds i
 
-abbrev pub width_in : Option Kind → Width
-width_in none = Width.NoKind
-width_in (some k) = Width.Bytes (bytes_of (layout_of k))
+abbrev pub width_in : Option Kind → Option ℕ
+width_in None = None
+width_in (Some k) = Some (bytes_of (layout_of k))
 
 -- what the table says of a number. 01: "kind | type | width"
-unfoldable pub width_at : ℕ → Width
+unfoldable pub width_at : ℕ → Option ℕ
 width_at n = width_in (kind_of n)
 
 abbrev pub view_in : Option Kind → Bool
-view_in none = false
-view_in (some k) = shown (layout_of k)
+view_in None = false
+view_in (Some k) = shown (layout_of k)
 
 -- whether the number is that of a kind of views. 01: "18 Utf8View", "19 BinaryView"
 unfoldable pub is_view : ℕ → Bool

@@ -5,25 +5,18 @@
 ghost use Rattle.std.specs.Prelude.{◌≡◌};
 ghost use Rattle.kinds.specs.Kind.{width_at, is_view};
 
-// What 01's table says of a kind: the bytes of one row, or that no kind has the number.
-#[derive(Clone, Copy)]
-pub enum Width {
-    Bytes(u32),
-    NoKind,
-}
-
 // The width of the kind with this number. 02, K2: "The width lookup is to be written as a decision over ranges of kind numbers."
-pub fn width_of(kind: u32) -> Width
+pub fn width_of(kind: u32) -> Option<u32>
     ensures { result ≡ width_at kind }
 {
     match kind {
-        1 | 5 => Width::Bytes(1), // Int8, UInt8
-        2 | 6 | 9 => Width::Bytes(2), // Int16, UInt16, Float16
-        3 | 7 | 10 | 12 => Width::Bytes(4), // Int32, UInt32, Float32, Date32
-        4 | 8 | 11 | 13..=15 => Width::Bytes(8), // Int64, UInt64, Float64, Date64, Timestamp, Duration
-        16 | 18..=19 => Width::Bytes(16), // Decimal128, Utf8View, BinaryView
-        17 => Width::Bytes(32), // Decimal256
-        _ => Width::NoKind,
+        1 | 5 => Some(1), // Int8, UInt8
+        2 | 6 | 9 => Some(2), // Int16, UInt16, Float16
+        3 | 7 | 10 | 12 => Some(4), // Int32, UInt32, Float32, Date32
+        4 | 8 | 11 | 13..=15 => Some(8), // Int64, UInt64, Float64, Date64, Timestamp, Duration
+        16 | 18..=19 => Some(16), // Decimal128, Utf8View, BinaryView
+        17 => Some(32), // Decimal256
+        _ => None,
     }
 }
 

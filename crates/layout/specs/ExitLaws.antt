@@ -3,7 +3,6 @@ use Rattle.std.specs.Prelude.{ℕ, ◌+◌, ◌*◌, ◌/◌, ◌-◌, ◌≤◌
 use Rattle.std.proofs.Common.{sym, ◌∙◌, ap, arith, mul-le-mul, le-leb, Fits}
 use Rattle.std.proofs.lemmas.Bool.{lt-leb}
 use Rattle.std.specs.Int.{w64}
-use Rattle.kinds.specs.declared.Width.{Width}
 use Rattle.kinds.specs.Kind.{width_at, is_view}
 use Rattle.state.specs.declared.BatchCoalescer.{BatchCoalescer}
 use Rattle.state.specs.declared.Column.{Column}
@@ -30,15 +29,16 @@ use Rattle.state.specs.Layout.{
 use Rattle.state.proofs.LayoutLaws.{columns_next}
 use Rattle.layout.specs.Few.{size_of_kind}
 use Rattle.layout.specs.WidthLaws.{kind_bound}
+use Rattle.std.specs.Prelude.{Option, Some, None}
 
 -- the width of a row: a kind has one, or the number is none of a kind
-pub kind_some : (k : ℕ) {n : ℕ} {w : Width} → w ≡ width_at k → w ≡ Width.Bytes n → n ≡ bytes_in (width_at k)
+pub kind_some : (k : ℕ) {n : ℕ} {w : Option ℕ} → w ≡ width_at k → w ≡ Some n → n ≡ bytes_in (width_at k)
 kind_some k q r = ap bytes_in (sym r ∙ q)
 
-pub kind_small : (k : ℕ) {n : ℕ} {w : Width} → w ≡ width_at k → w ≡ Width.Bytes n → n ≤ 32
+pub kind_small : (k : ℕ) {n : ℕ} {w : Option ℕ} → w ≡ width_at k → w ≡ Some n → n ≤ 32
 kind_small k q r = rw (kind_some k q r) (kind_bound k)
 
-pub kind_none : (k : ℕ) {w : Width} → w ≡ width_at k → w ≡ Width.NoKind → 0 ≡ bytes_in (width_at k)
+pub kind_none : (k : ℕ) {w : Option ℕ} → w ≡ width_at k → w ≡ None → 0 ≡ bytes_in (width_at k)
 kind_none k q r = ap bytes_in (sym r ∙ q)
 
 pub width_is : (s : BatchCoalescer) (c : ℕ) {r : ℕ} {k : Column} → k ≡ column_of s c → r ≡ bytes_in (width_at k.kind) → r ≡ width_of s c

@@ -9,7 +9,6 @@ ghost use Rattle.state.specs.Layout.{bytes_in, width_of, is_views, values_bytes,
 ghost use Rattle.layout.specs.Few.{Few, size_of_kind};
 
 use counts::RowCount;
-use kinds::Width;
 use state::{BatchCoalescer, Column};
 
 // Column c.
@@ -27,8 +26,8 @@ pub fn width_in(kind: u32) -> usize
 {
     let width = kinds::width_of(kind);
     match width {
-        Width::Bytes(n) => n as usize,
-        Width::NoKind => 0,
+        Some(n) => n as usize,
+        None => 0,
     }
 }
 

@@ -6,24 +6,18 @@ ghost use Rattle.std.specs.Prelude.{◌≡◌, ◌+◌, ◌*◌, ◌≤◌, leng
 ghost use Rattle.books.specs.Entry.{used_of};
 ghost use Rattle.room.specs.Room.{chosen, is_zero, opened_as, opened, tried, Opens};
 
-use books::{Entry, Found, Gap};
+use books::Entry;
 use counts::{ByteCount, ByteSum};
-use room::{Chosen, Room};
+use room::Room;
 
 // The lowest free number and the lowest start for a capacity; refusal 11 without a number, 12 without a gap.
-pub fn choose(books: &[u8], n: u32, pool: ByteCount, capacity: ByteSum) -> Chosen
+pub fn choose(books: &[u8], n: u32, pool: ByteCount, capacity: ByteSum) -> Result<Room, u32>
     requires { (used_of books.now ≤ n) × (4 + 20 * n ≤ length books.now) }
     ensures { result ≡ chosen books.now n pool.0 capacity.0 }
 {
-    let found = gaps::lowest_free(books, n);
-    let Found::At(number) = found else {
-        return Chosen::Refused(11);
-    };
-    let gap = gaps::lowest_gap(books, pool, capacity);
-    let Gap::Start(start) = gap else {
-        return Chosen::Refused(12);
-    };
-    Chosen::At(Room { number, start })
+    let number = gaps::lowest_free(books, n).ok_or(11u32)?;
+    let start = gaps::lowest_gap(books, pool, capacity).ok_or(12u32)?;
+    Ok(Room { number, start })
 }
 
 // Whether an entry is zero.
@@ -41,14 +35,11 @@ fn open_as(
     capacity: ByteSum,
     hold: u32,
     listings: u32,
-) -> Chosen
+) -> Result<Room, u32>
     requires { (used_of books.old ≤ n) × (4 + 20 * n ≤ length books.old) × (n ≤ 65536) }
     ensures { Opens (opened_as books.old n pool.0 capacity.0 hold listings) books.new result }
 {
-    let room = choose(books, n, pool, capacity);
-    let Chosen::At(r) = room else {
-        return room;
-    };
+    let r = choose(books, n, pool, capacity)?;
     let old = books::entry_at(books, r.number);
     if is_zero(old) {
         let e = Entry {
@@ -59,14 +50,14 @@ fn open_as(
             listings,
         };
         listings::take_entry(books, r.number, e);
-        room
+        Ok(r)
     } else {
-        Chosen::Refused(14)
+        Err(14)
     }
 }
 
 // A block for copied bytes: nobody holds it, and it counts as listed.
-pub fn open_block(books: &mut [u8], n: u32, pool: ByteCount, capacity: ByteSum) -> Chosen
+pub fn open_block(books: &mut [u8], n: u32, pool: ByteCount, capacity: ByteSum) -> Result<Room, u32>
     requires { (used_of books.old ≤ n) × (4 + 20 * n ≤ length books.old) × (n ≤ 65536) }
     ensures { Opens (opened books.old n pool.0 capacity.0) books.new result }
 {
@@ -74,7 +65,7 @@ pub fn open_block(books: &mut [u8], n: u32, pool: ByteCount, capacity: ByteSum) 
 }
 
 // A block opened on trial: it takes its number and its room, and bears the trial's mark.
-pub fn try_block(books: &mut [u8], n: u32, pool: ByteCount, capacity: ByteSum) -> Chosen
+pub fn try_block(books: &mut [u8], n: u32, pool: ByteCount, capacity: ByteSum) -> Result<Room, u32>
     requires { (used_of books.old ≤ n) × (4 + 20 * n ≤ length books.old) × (n ≤ 65536) }
     ensures { Opens (tried books.old n pool.0 capacity.0) books.new result }
 {

@@ -6,7 +6,6 @@ use Rattle.books.specs.Entry.{used_of}
 use Rattle.counts.specs.declared.BufferNumber.{BufferNumber}
 use Rattle.state.specs.declared.BatchCoalescer.{BatchCoalescer}
 use Rattle.state.specs.declared.Column.{Column}
-use Rattle.state.specs.declared.OpenBlock.{OpenBlock}
 use Rattle.state.specs.World.{World, world, column_of}
 use Rattle.state.specs.Layout.{is_views, slots_length, books_length, list_length}
 use Rattle.layout.specs.Few.{Few}
@@ -17,6 +16,7 @@ use Rattle.push_safety.specs.CallerLaws.{entries_room}
 use Rattle.columns.specs.Pushing.{Running}
 use Rattle.columns.specs.SourceLaws.{run_few, list_same}
 use Rattle.open_blocks.specs.Open.{Booked, FillingViews}
+use Rattle.std.specs.Prelude.{Some}
 
 -- ---- state and books in order
 
@@ -90,9 +90,9 @@ module _ {s : BatchCoalescer} {books : List ℕ} (b : Booked s books) where
       booked-kept = rw e ((some-run b).kept c h y)
 
       -- an open block has a place in its list
-      pub booked_room : {k : BufferNumber} → x.block ≡ OpenBlock.Number k → list_length (world s [] [] books) s.place c < s.lists
+      pub booked_room : {k : BufferNumber} → x.block ≡ Some k → list_length (world s [] [] books) s.place c < s.lists
       booked_room {k} o =
-          let q : (column_of s c).block ≡ OpenBlock.Number k = rw e at o in
+          let q : (column_of s c).block ≡ Some k = rw e at o in
           omega (arith, list_same s w.slots w.pool books c s.place, (some-run b).room c k h y q)
 
 -- a list's number counts within a word

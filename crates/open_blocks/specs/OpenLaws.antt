@@ -11,12 +11,10 @@ use Rattle.blocks.specs.declared.NextSize.{NextSize}
 use Rattle.blocks.specs.Block.{asked}
 use Rattle.sound.specs.Change.{with_length}
 use Rattle.room.specs.declared.Room.{Room}
-use Rattle.room.specs.declared.Chosen.{Chosen}
 use Rattle.room.specs.Room.{opened}
 use Rattle.room.proofs.BackLaws.{opened-answer}
 use Rattle.state.specs.declared.BatchCoalescer.{BatchCoalescer}
 use Rattle.state.specs.declared.Column.{Column}
-use Rattle.state.specs.declared.OpenBlock.{OpenBlock}
 use Rattle.state.specs.World.{world, column_of}
 use Rattle.state.specs.Layout.{list_place, list_length, tally}
 use Rattle.rules.specs.Steps.{ok, refuse, with_column, counting, listing}
@@ -27,6 +25,7 @@ use Rattle.rules.specs.declared.Step.{Step}
 use Rattle.rules.specs.Leaves.{steps-done, steps-refused}
 use Rattle.columns.specs.SourceLaws.{list_same}
 use Rattle.open_blocks.specs.Open.{ClosesBlock, OpensNext, OpensBlock}
+use Rattle.std.specs.Prelude.{Option, Some, None, Result, Ok, Err}
 
 -- put_length
 pub length-put : (books : List ℕ) (i n : ℕ) {t : List ℕ} → t ≡ with_word32 books (12 + 20 * i) n → t ≡ with_length books i n
@@ -36,27 +35,27 @@ length-put books i n e = let q : 12 + 20 * i ≡ 4 + 20 * i + 8 = omega arith in
 -- ---- finish_current
 
 module _ (s : BatchCoalescer) (slots books : List ℕ) (c : ℕ) {x : Column} (e : x ≡ column_of s c) where
-  block_is : {o : OpenBlock} → x.block ≡ o → (column_of s c).block ≡ o
+  block_is : {o : Option BufferNumber} → x.block ≡ o → (column_of s c).block ≡ o
   block_is q = sym (ap (λ (z : Column). z.block) e) ∙ q
 
   -- there is none
-  nothing : x.block ≡ OpenBlock.Closed → (pool : List ℕ) → closed (world s slots pool books) c ≡ world s slots pool books
+  nothing : x.block ≡ None → (pool : List ℕ) → closed (world s slots pool books) c ≡ world s slots pool books
   unfolding closed
   nothing q pool = rw (block_is q)
 
-  pub shut_none : x.block ≡ OpenBlock.Closed → ClosesBlock s slots books c s slots books
+  pub shut_none : x.block ≡ None → ClosesBlock s slots books c s slots books
   shut_none q = record { is = nothing q }
 
   -- it joins its list
-  module _ {k : BufferNumber} (q : x.block ≡ OpenBlock.Number k) {slots' books' : List ℕ} {t : BatchCoalescer}
+  module _ {k : BufferNumber} (q : x.block ≡ Some k) {slots' books' : List ℕ} {t : BatchCoalescer}
       (p : slots' ≡ with_word32 slots (list_place s s.place c + 4 * list_length (world s [] [] books) s.place c) k.0)
       (o : books' ≡ with_tally books (tally s s.place (c + 1)) (list_length (world s [] [] books) s.place c + 1))
-      (r : t ≡ with_column s c x.source OpenBlock.Closed) where
+      (r : t ≡ with_column s c x.source None) where
     number_is : (pool : List ℕ) → open_number (world s slots pool books) c ≡ k.0
     unfolding open_number
     number_is pool = ap block_number (block_is q)
 
-    joined : (pool : List ℕ) → closed (world s slots pool books) c ≡ world (with_column s c (column_of s c).source OpenBlock.Closed) (with_word32 slots (list_place s s.place c + 4 * list_length (world s slots pool books) s.place c) (open_number (world s slots pool books) c)) pool (with_tally books (tally s s.place (c + 1)) (list_length (world s slots pool books) s.place c + 1))
+    joined : (pool : List ℕ) → closed (world s slots pool books) c ≡ world (with_column s c (column_of s c).source None) (with_word32 slots (list_place s s.place c + 4 * list_length (world s slots pool books) s.place c) (open_number (world s slots pool books) c)) pool (with_tally books (tally s s.place (c + 1)) (list_length (world s slots pool books) s.place c + 1))
     unfolding closed listing counting
     joined pool = rw (block_is q)
 
@@ -69,7 +68,7 @@ module _ (s : BatchCoalescer) (slots books : List ℕ) (c : ℕ) {x : Column} (e
 
 -- ---- open_next
 
-module _ (s : BatchCoalescer) (books : List ℕ) (c : ℕ) (min : ByteSum) {x : Column} {next : NextSize} {a : Chosen} {books' : List ℕ} (xe : x ≡ column_of s c) (ne : next ≡ asked x.source min)
+module _ (s : BatchCoalescer) (books : List ℕ) (c : ℕ) (min : ByteSum) {x : Column} {next : NextSize} {a : Result Room ℕ} {books' : List ℕ} (xe : x ≡ column_of s c) (ne : next ≡ asked x.source min)
     (o : Rattle.room.specs.Room.Opens (opened books s.numbers s.pool.0 next.size.0) books' a) where
   next_is : next ≡ asked (column_of s c).source min
   next_is = ne ∙ ap (λ (z : Column). asked z.source min) xe
@@ -78,7 +77,7 @@ module _ (s : BatchCoalescer) (books : List ℕ) (c : ℕ) (min : ByteSum) {x : 
   outcome = rw (← next_is, o.answer_is, o.books_are)
 
   -- 11 and 12: nothing has changed
-  pub next-refused : {number : ℕ} → a ≡ Chosen.Refused number → OpensNext s books c min (record { state = s; number = number }) books'
+  pub next-refused : {number : ℕ} → a ≡ Err number → OpensNext s books c min (record { state = s; number = number }) books'
   next-refused {number} w =
       record { steps = λ slots pool. steps-refused some (ap (opening (world s slots pool books) c min.0) outcome ∙ go slots pool) }
     where
@@ -89,7 +88,7 @@ module _ (s : BatchCoalescer) (books : List ℕ) (c : ℕ) (min : ByteSum) {x : 
       go slots pool = rw w
 
   -- a block
-  pub next-done : {room : Room} {t : BatchCoalescer} → a ≡ Chosen.At room → t ≡ with_column s c next.source (OpenBlock.Number room.number) → OpensNext s books c min (record { state = t; number = 0 }) books'
+  pub next-done : {room : Room} {t : BatchCoalescer} → a ≡ Ok room → t ≡ with_column s c next.source (Some room.number) → OpensNext s books c min (record { state = t; number = 0 }) books'
   next-done {room} {t} w y =
       record { steps = λ slots pool. steps-done (ap (opening (world s slots pool books) c min.0) outcome ∙ go slots pool) }
     where

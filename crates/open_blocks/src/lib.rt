@@ -8,9 +8,8 @@ ghost use Rattle.state.specs.Layout.{is_views};
 ghost use Rattle.open_blocks.specs.Open.{Booked, FillingViews, ClosesBlock, OpensNext, OpensBlock};
 
 use counts::{BufferNumber, ByteCount, ByteSum};
-use room::Chosen;
 use rules::Step;
-use state::{BatchCoalescer, OpenBlock};
+use state::BatchCoalescer;
 
 // finish_current: the open block joins its list, if there is one.
 pub fn finish_current(
@@ -25,10 +24,10 @@ pub fn finish_current(
     let column = layout::column_of(s, c);
     let block = column.block;
     match block {
-        OpenBlock::Closed => s,
-        OpenBlock::Number(k) => {
+        None => s,
+        Some(k) => {
             lists::list_number(s, slots, books, c, k);
-            columns::with_column(s, c, column.source, OpenBlock::Closed)
+            columns::with_column(s, c, column.source, None)
         }
     }
 }
@@ -43,11 +42,11 @@ fn open_next(s: BatchCoalescer, books: &mut [u8], c: u32, min: ByteSum) -> Step
     let next = source.next_size(min);
     let chosen = making_room::open_block(books, s.numbers, s.pool, next.size);
     match chosen {
-        Chosen::Refused(number) => Step { state: s, number },
-        Chosen::At(r) => {
+        Err(number) => Step { state: s, number },
+        Ok(r) => {
             let number = r.number;
             let kept = next.source;
-            let t = columns::with_column(s, c, kept, OpenBlock::Number(number));
+            let t = columns::with_column(s, c, kept, Some(number));
             Step {
                 state: t,
                 number: 0,

@@ -3,7 +3,7 @@ use Rattle.std.specs.Prelude.{ℕ, ◌+◌, ◌/◌, ◌%◌, ◌≤◌, ◌<◌
 use Rattle.std.proofs.Common.{sym, ◌∙◌, arith, length-append, length-drop, drop_of_length-le, drop-drop, eq-eqb, ne_eqb}
 use Rattle.std.proofs.Math.Path.{ap}
 use mathlib.Core.List.{List, [], ◌∷◌, ◌++◌, append_assoc, append-nil}
-use Rattle.std.proofs.Math.Option.{some}
+use Rattle.std.specs.Prelude.{Some}
 use Rattle.std.proofs.Math.ListN.{length, drop}
 use Rattle.std.proofs.Math.Seq.{drop_at, length-take-le}
 use borrow.Rule.Slice.PartMut.{put_mid}
@@ -49,7 +49,7 @@ three_put p q r s {t} {u} {v} x y z a b c e f g =
     regroup : (a b c d : List ℕ) → (a ++ b) ++ (c ++ d) ≡ (a ++ (b ++ c)) ++ d
     regroup a b c d = simp append_assoc
 
-pub last-put : (b : List ℕ) {t u v : List ℕ} (n : ℕ) → length b ≡ strip_bytes → t ≡ with_word32 b 0 1 → u ≡ with_word32 t 4 (n % 4294967296) → v ≡ with_word32 u 8 (n / 4294967296) → v ≡ last_code (some n) ++ drop 12 b
+pub last-put : (b : List ℕ) {t u v : List ℕ} (n : ℕ) → length b ≡ strip_bytes → t ≡ with_word32 b 0 1 → u ≡ with_word32 t 4 (n % 4294967296) → v ≡ with_word32 u 8 (n / 4294967296) → v ≡ last_code (Some n) ++ drop 12 b
 unfolding last_code
 last-put b n h e p q =
     three_put (read 0 4 b) (read 4 4 b) (read 8 4 b) (drop 12 b) 1 (n % 4294967296) (n / 4294967296) (length-read 0 4 b (omega arith)) (length-read 4 4 b (omega arith)) (length-read 8 4 b (omega arith)) (e ∙ ap (λ (s : List ℕ). with_word32 s 0 1) (four-parts b h)) p q
@@ -82,11 +82,11 @@ range_name d e name p t = right_of ((eqb d 1 || eqb d 2) && (eqb e 1 || eqb e 2)
 pub not_refused : (s : Strip) (n d e : ℕ) (name : List ℕ) {v : ℕ} → v ≡ refusal_for s (event_of n d e name) → v ≡ 0 → refusal_for s (event_of n d e name) ≡ 0
 not_refused s n d e name p z = sym p ∙ z
 
-accepted_one : (s : Strip) (n d e : ℕ) (name : List ℕ) → d ≡ 1 → accepted s (event_of n d e name) ≡ record { last = some n; first = changed s.first (what_of e name); second = s.second }
+accepted_one : (s : Strip) (n d e : ℕ) (name : List ℕ) → d ≡ 1 → accepted s (event_of n d e name) ≡ record { last = Some n; first = changed s.first (what_of e name); second = s.second }
 unfolding accepted side_of
 accepted_one s n d e name h = rw (eq-eqb d 1 h)
 
-accepted_two : (s : Strip) (n d e : ℕ) (name : List ℕ) → (d ≡ 1 → ⊥) → accepted s (event_of n d e name) ≡ record { last = some n; first = s.first; second = changed s.second (what_of e name) }
+accepted_two : (s : Strip) (n d e : ℕ) (name : List ℕ) → (d ≡ 1 → ⊥) → accepted s (event_of n d e name) ≡ record { last = Some n; first = s.first; second = changed s.second (what_of e name) }
 unfolding accepted side_of
 accepted_two s n d e name h = rw (ne_eqb d 1 h)
 
@@ -106,13 +106,13 @@ module _ (b name : List ℕ) (n d e : ℕ) (h : is_strip b ≡ true) where
   second_rest : drop 492 b ≡ side_code (strip_of b).second
   second_rest = sym (read-rest 492 480 b (omega (arith, strip-length b h))) ∙ second_is b h
 
-  pub took-first : {w t : List ℕ} → d ≡ 1 → w ≡ side_code (changed (names_in (take 480 (drop 12 b))) (what_of e name)) → t ≡ last_code (some n) ++ drop 12 (put_mid 12 480 b w) → t ≡ code_of (accepted (strip_of b) (event_of n d e name))
+  pub took-first : {w t : List ℕ} → d ≡ 1 → w ≡ side_code (changed (names_in (take 480 (drop 12 b))) (what_of e name)) → t ≡ last_code (Some n) ++ drop 12 (put_mid 12 480 b w) → t ≡ code_of (accepted (strip_of b) (event_of n d e name))
   unfolding code_of
   took-first {w} {t} k p q =
       let l : length (take 12 b) ≡ 12 = length-take-le 12 b (omega (arith, strip-length b h)) in
       let r : drop 12 (put_mid 12 480 b w) ≡ w ++ drop 492 b = drop_at (take 12 b) (w ++ drop 480 (drop 12 b)) 12 l ∙ ap (λ (x : List ℕ). w ++ x) (drop-drop 480 12 b) in
       q
-      ∙ ap (λ (x : List ℕ). last_code (some n) ++ x) (r ∙ ap (λ (x : List ℕ). w ++ x) second_rest ∙ ap (λ (x : List ℕ). x ++ side_code (strip_of b).second) (p ∙ ap (λ (m : List (List ℕ)). side_code (changed m (what_of e name))) (first_names_lent b)))
+      ∙ ap (λ (x : List ℕ). last_code (Some n) ++ x) (r ∙ ap (λ (x : List ℕ). w ++ x) second_rest ∙ ap (λ (x : List ℕ). x ++ side_code (strip_of b).second) (p ∙ ap (λ (m : List (List ℕ)). side_code (changed m (what_of e name))) (first_names_lent b)))
       ∙ ap code_of (sym (accepted_one (strip_of b) n d e name k))
 
   -- side 1 stands as it did
@@ -126,11 +126,11 @@ module _ (b name : List ℕ) (n d e : ℕ) (h : is_strip b ≡ true) where
       ∙ ap (drop 12) (append_assoc (read 0 12 b) (read 12 480 b) w)
       ∙ drop_at (read 0 12 b) (read 12 480 b ++ w) 12 l
 
-  pub took_second : {w t : List ℕ} → (d ≡ 1 → ⊥) → w ≡ side_code (changed (names_in (take 480 (drop 492 b))) (what_of e name)) → t ≡ last_code (some n) ++ drop 12 (put_mid 492 480 b w) → t ≡ code_of (accepted (strip_of b) (event_of n d e name))
+  pub took_second : {w t : List ℕ} → (d ≡ 1 → ⊥) → w ≡ side_code (changed (names_in (take 480 (drop 492 b))) (what_of e name)) → t ≡ last_code (Some n) ++ drop 12 (put_mid 492 480 b w) → t ≡ code_of (accepted (strip_of b) (event_of n d e name))
   unfolding code_of
   took_second {w} {t} k p q =
       q
-      ∙ ap (λ (x : List ℕ). last_code (some n) ++ x) (first_stays w ∙ ap (λ (x : List ℕ). x ++ w) (first_is b h) ∙ ap (λ (x : List ℕ). side_code (strip_of b).first ++ x) (p ∙ ap (λ (m : List (List ℕ)). side_code (changed m (what_of e name))) (second_names_lent b)))
+      ∙ ap (λ (x : List ℕ). last_code (Some n) ++ x) (first_stays w ∙ ap (λ (x : List ℕ). x ++ w) (first_is b h) ∙ ap (λ (x : List ℕ). side_code (strip_of b).first ++ x) (p ∙ ap (λ (m : List (List ℕ)). side_code (changed m (what_of e name))) (second_names_lent b)))
       ∙ ap code_of (sym (accepted_two (strip_of b) n d e name k))
 
 -- a fault is no strip

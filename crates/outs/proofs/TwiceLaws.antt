@@ -2,7 +2,7 @@
 use Rattle.std.specs.Prelude.{ℕ, ◌≤◌, ◌<◌, ◌≡◌, refl, Bool, true, false, cond, eqb}
 use Rattle.std.proofs.Common.{sym, ◌∙◌, ap, true≢false, arith, eqb-true, ltb-true, ltb-false, le-ltb}
 use mathlib.Core.List.{List, [], ◌∷◌, foldl}
-use Rattle.std.proofs.Math.Option.{Option, none, some}
+use Rattle.std.specs.Prelude.{Option, None, Some}
 use Rattle.std.proofs.lemmas.Bool.{eqb-false}
 use Rattle.outs.specs.Outs.{Event, Strip, is_above, refusal_for, took, after, accepted_of}
 use Rattle.outs.proofs.OutsLaws.{took-refused, took-accepted}
@@ -20,17 +20,17 @@ accepted_rise s (e ∷ es) = go (eqb (refusal_for s e) 0) refl (accepted_rise (t
     go : (b : Bool) → eqb (refusal_for s e) 0 ≡ b → Above (took s e).last (accepted_of (took s e) es) → Above s.last (cond b (e ∷ accepted_of (took s e) es) (accepted_of (took s e) es))
     go true q r =
         let z : refusal_for s e ≡ 0 = eqb-true (refusal_for s e) 0 q in
-        let l : (took s e).last ≡ some e.number = ap (λ (t : Strip). t.last) (took-accepted s e z) ∙ last_is s e in
+        let l : (took s e).last ≡ Some e.number = ap (λ (t : Strip). t.last) (took-accepted s e z) ∙ last_is s e in
         next (above_is s e z) (above_as l r)
     go false q r =
         let u : (took s e).last ≡ s.last = ap (λ (t : Strip). t.last) (took-refused s e (eqb-false (refusal_for s e) 0 q)) in
         above_as u r
 
 up : (l : Option ℕ) (m n : ℕ) → is_above l m ≡ true → is_above l n ≡ false → n ≤ m
-up none m n h k = let q : ◌≡◌ {A = ℕ} 0 1 = cc in absurd (omega arith)
-up (some j) m n h k = omega (arith, ltb-true j m h, ltb-false j n k)
+up None m n h k = let q : ◌≡◌ {A = ℕ} 0 1 = cc in absurd (omega arith)
+up (Some j) m n h k = omega (arith, ltb-true j m h, ltb-false j n k)
 
-not_above : (m n : ℕ) → n ≤ m → is_above (some m) n ≡ false
+not_above : (m n : ℕ) → n ≤ m → is_above (Some m) n ≡ false
 not_above m n h = le-ltb m n h
 
 stays : (s : Strip) (e : Event) (n : ℕ) → is_above s.last n ≡ false → is_above (took s e).last n ≡ false

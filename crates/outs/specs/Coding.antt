@@ -1,6 +1,6 @@
 -- The strip in lent bytes, 972 of them: how a strip is coded, and which bytes code one.
 use Rattle.std.specs.Prelude.{ℕ, zero, suc, ◌+◌, ◌-◌, ◌*◌, ◌/◌, ◌%◌, Bool, true, cond, ◌&&◌, List, [], ◌∷◌, ◌++◌, length, replicate, eqb, ltb, leb}
-use Rattle.std.proofs.Math.Option.{Option, none, some}
+use Rattle.std.specs.Prelude.{Option, None, Some}
 use Rattle.search.specs.Table.{same}
 use Rattle.words.specs.Word.{word32}
 use Rattle.words.specs.Run.{read}
@@ -43,8 +43,8 @@ side_code l = padded side_bytes (word_bytes (length l) ++ names_code l)
 
 -- the last accepted number: 1, and its low and its high word; zeros where no row was accepted
 unfoldable pub last_code : Option ℕ → List ℕ
-last_code none = zeros 12
-last_code (some n) = word_bytes 1 ++ (word_bytes (n % 4294967296) ++ word_bytes (n / 4294967296))
+last_code None = zeros 12
+last_code (Some n) = word_bytes 1 ++ (word_bytes (n % 4294967296) ++ word_bytes (n / 4294967296))
 
 -- the last number, side 1, side 2
 unfoldable pub code_of : Strip → List ℕ
@@ -67,7 +67,7 @@ names_in side = first_names side (word32 side 0)
 
 -- the last accepted number
 unfoldable pub last_in : List ℕ → Option ℕ
-last_in b = cond (eqb (word32 b 0) 0) none (some (word32 b 4 + word32 b 8 * 4294967296))
+last_in b = cond (eqb (word32 b 0) 0) None (Some (word32 b 4 + word32 b 8 * 4294967296))
 
 -- the strip that bytes hold, whatever they are
 unfoldable pub strip_of : List ℕ → Strip
@@ -78,8 +78,8 @@ strip_of b =
 
 -- 02, K6: "row number (UInt64)"
 unfoldable pub last_fits : Option ℕ → Bool
-last_fits none = true
-last_fits (some n) = ltb n 18446744073709551616
+last_fits None = true
+last_fits (Some n) = ltb n 18446744073709551616
 
 -- 02, K6: "player name (.., 1 to 64 bytes ..)"
 unfoldable pub are_names : List (List ℕ) → Bool

@@ -2,7 +2,7 @@
 use Rattle.std.specs.Prelude.{ℕ, ◌+◌, ◌*◌, ◌/◌, ◌%◌, ◌<◌, ◌≡◌, refl, true, ◌&&◌, length}
 use Rattle.std.proofs.Common.{sym, ◌∙◌, ap, ltb-true, eq-eqb, ne_eqb}
 use mathlib.Core.List.{List, [], ◌++◌, append_assoc, append-nil}
-use Rattle.std.proofs.Math.Option.{Option, none, some}
+use Rattle.std.specs.Prelude.{Option, None, Some}
 use native.Mathlib.Omega.{arith}
 use Rattle.std.proofs.Math.ListN.{length-append}
 use Rattle.search.specs.Cases.{both}
@@ -38,47 +38,47 @@ strip_fits_is f = both f.number (both (fits_is f.one) (fits_is f.two))
 
 pub length_last : (l : Option ℕ) → length (last_code l) ≡ 12
 unfolding last_code word_bytes
-length_last none = refl
-length_last (some n) = refl
+length_last None = refl
+length_last (Some n) = refl
 
-pub none_flag : (r : List ℕ) → word32 (last_code none ++ r) 0 ≡ 0
+pub none_flag : (r : List ℕ) → word32 (last_code None ++ r) 0 ≡ 0
 unfolding word32 word_of last_code
 none_flag r = refl
 
-none_read : (r : List ℕ) → last_in (last_code none ++ r) ≡ none
+none_read : (r : List ℕ) → last_in (last_code None ++ r) ≡ None
 unfolding last_in
-none_read r = rw (eq-eqb (word32 (last_code none ++ r) 0) 0 (none_flag r))
+none_read r = rw (eq-eqb (word32 (last_code None ++ r) 0) 0 (none_flag r))
 
 -- the three words of a number
 module _ (n : ℕ) (r : List ℕ) (h : n < 18446744073709551616) where
-  words : last_code (some n) ++ r ≡ word_bytes 1 ++ (word_bytes (n % 4294967296) ++ (word_bytes (n / 4294967296) ++ r))
+  words : last_code (Some n) ++ r ≡ word_bytes 1 ++ (word_bytes (n % 4294967296) ++ (word_bytes (n / 4294967296) ++ r))
   unfolding last_code
   words = simp append_assoc
 
-  pub some_flag : word32 (last_code (some n) ++ r) 0 ≡ 1
+  pub some_flag : word32 (last_code (Some n) ++ r) 0 ≡ 1
   some_flag = ap (λ (s : List ℕ). word32 s 0) words ∙ word_at [] (word_bytes (n % 4294967296) ++ (word_bytes (n / 4294967296) ++ r)) 0 1 refl (omega arith)
 
-  some_low : word32 (last_code (some n) ++ r) 4 ≡ n % 4294967296
+  some_low : word32 (last_code (Some n) ++ r) 4 ≡ n % 4294967296
   some_low =
       ap (λ (s : List ℕ). word32 s 4) words
       ∙ word_at (word_bytes 1) (word_bytes (n / 4294967296) ++ r) 4 (n % 4294967296) (length_word 1) (omega arith)
 
-  some_high : word32 (last_code (some n) ++ r) 8 ≡ n / 4294967296
+  some_high : word32 (last_code (Some n) ++ r) 8 ≡ n / 4294967296
   some_high =
       ap (λ (s : List ℕ). word32 s 8) (words ∙ sym (append_assoc (word_bytes 1) (word_bytes (n % 4294967296)) (word_bytes (n / 4294967296) ++ r)))
       ∙ word_at (word_bytes 1 ++ word_bytes (n % 4294967296)) r 8 (n / 4294967296) (length-append (word_bytes 1) (word_bytes (n % 4294967296)) ∙ omega (arith, length_word 1, length_word (n % 4294967296))) (omega arith)
 
-  some_read : last_in (last_code (some n) ++ r) ≡ some n
+  some_read : last_in (last_code (Some n) ++ r) ≡ Some n
   unfolding last_in
   some_read =
-      let z : word32 (last_code (some n) ++ r) 0 ≡ 0 → ⊥ = λ e. omega (arith, some_flag) in
+      let z : word32 (last_code (Some n) ++ r) 0 ≡ 0 → ⊥ = λ e. omega (arith, some_flag) in
       let q : n % 4294967296 + n / 4294967296 * 4294967296 ≡ n = omega arith in
-      rw (ne_eqb (word32 (last_code (some n) ++ r) 0) 0 z, some_low, some_high, q)
+      rw (ne_eqb (word32 (last_code (Some n) ++ r) 0) 0 z, some_low, some_high, q)
 
 last-read : (l : Option ℕ) (r : List ℕ) → last_fits l ≡ true → last_in (last_code l ++ r) ≡ l
 unfolding last_fits
-last-read none r h = none_read r
-last-read (some n) r h = some_read n r (ltb-true n 18446744073709551616 h)
+last-read None r h = none_read r
+last-read (Some n) r h = some_read n r (ltb-true n 18446744073709551616 h)
 
 -- ---- the whole strip
 

@@ -1,6 +1,6 @@
 -- Both sides of each edge of the coding, computed: bytes written out, and a byte changed in them.
 use Rattle.std.specs.Prelude.{ℕ, Bool, true, ◌&&◌, not, List, [], ◌∷◌, T, eqb, set, take, drop, replicate}
-use Rattle.std.proofs.Math.Option.{some}
+use Rattle.std.specs.Prelude.{Some}
 use Rattle.search.specs.Table.{same}
 use Rattle.words.specs.Word.{word_of, word32}
 use Rattle.words.specs.Run.{read}
@@ -9,11 +9,11 @@ use Rattle.outs.specs.Coding.{padded, word_bytes, name_code, names_code, side_co
 
 -- number 4,294,967,298; on side 1 AB and a name of 64 bytes, on side 2 C
 abbrev sample : Strip
-sample = record { last = some 4294967298; first = (65 ∷ 66 ∷ []) ∷ replicate 64 90 ∷ []; second = (67 ∷ []) ∷ [] }
+sample = record { last = Some 4294967298; first = (65 ∷ 66 ∷ []) ∷ replicate 64 90 ∷ []; second = (67 ∷ []) ∷ [] }
 
 -- as many as there may be, and as long
 abbrev fullest : Strip
-fullest = record { last = some 18446744073709551615; first = replicate 7 (replicate 64 255); second = replicate 7 (replicate 64 255) }
+fullest = record { last = Some 18446744073709551615; first = replicate 7 (replicate 64 255); second = replicate 7 (replicate 64 255) }
 
 -- its bytes, with another at one place
 unfoldable pub with : ℕ → ℕ → List ℕ

@@ -1,6 +1,6 @@
 -- The number of a row is the lowest that applies, and 0 where none does.
 use Rattle.std.specs.Prelude.{ℕ, Bool, false, cond, not, List, length, eqb, ltb}
-use Rattle.std.proofs.Math.Option.{Option, none, some}
+use Rattle.std.specs.Prelude.{Option, None, Some}
 use Rattle.outs.specs.Outs.{What, out, revive, Strip, out_on, among, is_above, in_range, side_of, what_of}
 
 -- 02, K6: "33 an eighth out", the others put aside
@@ -29,5 +29,5 @@ applies s k d e name n =
 
 -- the lowest of the numbers, and 0 where there is none
 abbrev pub or_zero : Option ℕ → ℕ
-or_zero none = 0
-or_zero (some n) = n
+or_zero None = 0
+or_zero (Some n) = n

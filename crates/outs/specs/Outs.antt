@@ -1,7 +1,7 @@
 -- The player strip of 02, K6: what an event does to the players that are out, and which number refuses it.
 use Rattle.std.specs.Prelude.{ℕ, ◌+◌, Bool, true, false, ◌&&◌, ◌||◌, cond, length, drop, ltb, leb, eqb}
 use mathlib.Core.List.{List, [], ◌∷◌, ◌++◌, foldl}
-use Rattle.std.proofs.Math.Option.{Option, none, some}
+use Rattle.std.specs.Prelude.{Option, None, Some}
 use Rattle.search.specs.Table.{same}
 
 -- ---- the strip, and an event
@@ -30,7 +30,7 @@ pub record Strip : Type 0 where
 
 -- before any row
 abbrev pub empty : Strip
-empty = record { last = none; first = []; second = [] }
+empty = record { last = None; first = []; second = [] }
 
 -- the players that are out on a side
 abbrev pub out_on : Strip → Side → List (List ℕ)
@@ -46,8 +46,8 @@ among n (m ∷ ms) = cond (same n m) true (among n ms)
 
 -- 32's "not above the last accepted row's", said the other way round
 abbrev pub is_above : Option ℕ → ℕ → Bool
-is_above none n = true
-is_above (some k) n = ltb k n
+is_above None n = true
+is_above (Some k) n = ltb k n
 
 -- 02, K6: "33 an eighth out; 34 revive with nobody out; 35 a name already out on that side", "lowest number first"
 abbrev pub refusal_on : List (List ℕ) → What → ℕ
@@ -67,8 +67,8 @@ changed l revive = drop 1 l
 
 -- the strip with other players out on a side, and the number of the row that did it
 abbrev pub with_side : Strip → Side → List (List ℕ) → ℕ → Strip
-with_side s one l n = record { last = some n; first = l; second = s.second }
-with_side s two l n = record { last = some n; first = s.first; second = l }
+with_side s one l n = record { last = Some n; first = l; second = s.second }
+with_side s two l n = record { last = Some n; first = s.first; second = l }
 
 -- the strip after an event that is accepted
 unfoldable pub accepted : Strip → Event → Strip

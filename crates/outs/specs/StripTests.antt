@@ -3,7 +3,7 @@ use Rattle.std.specs.Prelude.{ℕ, ◌+◌, ◌*◌, ◌/◌, ◌%◌, ◌<◌, 
 use Rattle.std.proofs.Common.{sym, ◌∙◌, true≢false, arith, eqb-true, eq-eqb, ne_eqb, lt-ltb, ltb-true}
 use Rattle.std.proofs.Math.Path.{ap}
 use mathlib.Core.List.{List, ◌++◌}
-use Rattle.std.proofs.Math.Option.{Option, none, some}
+use Rattle.std.specs.Prelude.{Option, None, Some}
 use Rattle.std.proofs.Math.Decide.{ℕ_discrete}
 use Rattle.search.specs.Cases.{both, false_of, same_test}
 use Rattle.words.specs.Word.{word32}
@@ -19,11 +19,11 @@ use Rattle.outs.specs.TestLaws.{zero_is, zero_says}
 
 -- ---- bytes that pass are a code
 
-pub last_off : (b : List ℕ) → word32 b 0 ≡ 0 → last_in b ≡ none
+pub last_off : (b : List ℕ) → word32 b 0 ≡ 0 → last_in b ≡ None
 unfolding last_in
 last_off b e = rw (eq-eqb (word32 b 0) 0 e)
 
-pub last_on : (b : List ℕ) → (word32 b 0 ≡ 0 → ⊥) → last_in b ≡ some (word32 b 4 + word32 b 8 * 4294967296)
+pub last_on : (b : List ℕ) → (word32 b 0 ≡ 0 → ⊥) → last_in b ≡ Some (word32 b 4 + word32 b 8 * 4294967296)
 unfolding last_in
 last_on b e = rw (ne_eqb (word32 b 0) 0 e)
 
@@ -39,30 +39,30 @@ zero_words_lem : zeros 12 ≡ word_bytes 0 ++ zeros 8
 unfolding word_bytes
 zero_words_lem = refl
 
-code-none : last_code none ≡ zeros 12
+code-none : last_code None ≡ zeros 12
 unfolding last_code
 code-none = refl
 
-code-some : (n lo hi : ℕ) → lo < 2 ^ 32 → n ≡ lo + hi * 4294967296 → last_code (some n) ≡ word_bytes 1 ++ (word_bytes lo ++ word_bytes hi)
+code-some : (n lo hi : ℕ) → lo < 2 ^ 32 → n ≡ lo + hi * 4294967296 → last_code (Some n) ≡ word_bytes 1 ++ (word_bytes lo ++ word_bytes hi)
 unfolding last_code
 code-some n lo hi h e =
     let p : n % 4294967296 ≡ lo = omega arith in
     let q : n / 4294967296 ≡ hi = omega arith in
     rw (p, q)
 
-none-fits : last_fits none ≡ true
+none-fits : last_fits None ≡ true
 unfolding last_fits
 none-fits = refl
 
-pub some_fits : (n : ℕ) → n < 18446744073709551616 → last_fits (some n) ≡ true
+pub some_fits : (n : ℕ) → n < 18446744073709551616 → last_fits (Some n) ≡ true
 unfolding last_fits
 some_fits n h = lt-ltb n 18446744073709551616 h
 
-fits-some : (n : ℕ) → last_fits (some n) ≡ true → n < 18446744073709551616
+fits-some : (n : ℕ) → last_fits (Some n) ≡ true → n < 18446744073709551616
 unfolding last_fits
 fits-some n h = ltb-true n 18446744073709551616 h
 
-none-zeros : (r : List ℕ) → read 4 8 (last_code none ++ r) ≡ zeros 8
+none-zeros : (r : List ℕ) → read 4 8 (last_code None ++ r) ≡ zeros 8
 unfolding read last_code
 none-zeros r = refl
 
@@ -127,10 +127,10 @@ module _ (b : List ℕ) (k : Bytes b) (l : length b ≡ strip_bytes) where
 -- ---- and a code passes
 
 code-last : (l : Option ℕ) (r : List ℕ) → last_fits l ≡ true → is_last (last_code l ++ r) ≡ true
-code-last none r h = off_zero (last_code none ++ r) (none_flag r) ∙ zero_is (read 4 8 (last_code none ++ r)) 8 (none-zeros r)
-code-last (some n) r h =
-    let f : word32 (last_code (some n) ++ r) 0 ≡ 1 = some_flag n r (fits-some n h) in
-    on_one (last_code (some n) ++ r) (λ e. omega arith) ∙ eq-eqb (word32 (last_code (some n) ++ r) 0) 1 f
+code-last None r h = off_zero (last_code None ++ r) (none_flag r) ∙ zero_is (read 4 8 (last_code None ++ r)) 8 (none-zeros r)
+code-last (Some n) r h =
+    let f : word32 (last_code (Some n) ++ r) 0 ≡ 1 = some_flag n r (fits-some n h) in
+    on_one (last_code (Some n) ++ r) (λ e. omega arith) ∙ eq-eqb (word32 (last_code (Some n) ++ r) 0) 1 f
 
 pub strip-last : (b : List ℕ) → is_strip b ≡ true → is_last b ≡ true
 unfolding code_of

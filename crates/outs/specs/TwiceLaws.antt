@@ -2,7 +2,7 @@
 use Rattle.std.specs.Prelude.{ℕ, ◌<◌, ◌≡◌, refl, Bool, true, false, cond}
 use Rattle.std.proofs.Common.{arith}
 use mathlib.Core.List.{List, [], ◌∷◌}
-use Rattle.std.proofs.Math.Option.{Option, some}
+use Rattle.std.specs.Prelude.{Option, Some}
 use Rattle.outs.specs.Outs.{Side, one, two, Event, Strip, out_on, is_above, refusal_on, refusal_for, changed, with_side, accepted}
 
 -- the numbers rise, from above n on
@@ -13,14 +13,14 @@ pub data Rise : ℕ → List Event → Type 0 where
 -- each number is above the last one before it, where there is one
 pub data Above : Option ℕ → List Event → Type 0 where
   ended : {l : Option ℕ} → Above l []
-  next : {l : Option ℕ} {e : Event} {es : List Event} → is_above l e.number ≡ true → Above (some e.number) es → Above l (e ∷ es)
+  next : {l : Option ℕ} {e : Event} {es : List Event} → is_above l e.number ≡ true → Above (Some e.number) es → Above l (e ∷ es)
 
 -- the number of an accepted event is the last one
-pub last_is : (s : Strip) (e : Event) → (accepted s e).last ≡ some e.number
+pub last_is : (s : Strip) (e : Event) → (accepted s e).last ≡ Some e.number
 unfolding accepted
 last_is s e = go e.side
   where
-    go : (c : Side) → (with_side s c (changed (out_on s c) e.what) e.number).last ≡ some e.number
+    go : (c : Side) → (with_side s c (changed (out_on s c) e.what) e.number).last ≡ Some e.number
     go one = refl
     go two = refl
 

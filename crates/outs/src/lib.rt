@@ -2,7 +2,7 @@
 #![tactic(auto)]
 
 ghost use Rattle.std.specs.Prelude.{◌≡◌, true, [], ◌∷◌, ◌++◌, ◌+◌, ◌*◌, ◌≤◌, ◌<◌, length, drop};
-ghost use Rattle.std.proofs.Math.Option.{some};
+ghost use Rattle.std.specs.Prelude.{Some};
 ghost use Rattle.search.specs.Table.{same};
 ghost use Rattle.words.specs.Word.{word32};
 ghost use Rattle.outs.specs.Outs.{among, is_above, refusal_on, refusal_for, changed, accepted, is_name, in_range, what_of, event_of, given_number, given_took};

@@ -4,32 +4,32 @@ use Rattle.words.specs.Run.{put}
 use Rattle.books.specs.Entry.{used_of, entry_of}
 use Rattle.listings.specs.Listing.{taken, released}
 use Rattle.room.specs.declared.Room.{Room}
-use Rattle.room.specs.declared.Chosen.{Chosen}
 use Rattle.room.specs.Room.{chosen, entry_at}
-use Rattle.pool.specs.declared.Registered.{Registered}
+use Rattle.std.specs.Prelude.{Result, Ok, Err}
+use Rattle.counts.specs.declared.BufferNumber.{BufferNumber}
 
 -- the number of a refusal, and 0 where there is none
-abbrev pub refusal_of : Registered → ℕ
-refusal_of (Registered.Number k) = 0
-refusal_of (Registered.Refused number) = number
+abbrev pub refusal_of : Result BufferNumber ℕ → ℕ
+refusal_of (Ok k) = 0
+refusal_of (Err number) = number
 
 -- an answer, with the books and the pool that go with it
 pub record RegisterOutcome : Type 0 where
-  pub answer : Registered
+  pub answer : Result BufferNumber ℕ
   pub books : List ℕ
   pub pool : List ℕ
 
 -- a refusal changes nothing
 abbrev pub refused : List ℕ → List ℕ → ℕ → RegisterOutcome
-refused s p number = record { answer = Registered.Refused number; books = s; pool = p }
+refused s p number = record { answer = Err number; books = s; pool = p }
 
 -- the room taken under the caller's hold, and the bytes there. 01: "Pool bytes change only where bytes are registered or
 -- copied"
-abbrev pub settled_at : List ℕ → List ℕ → List ℕ → ℕ → Chosen → RegisterOutcome
-settled_at s p bytes capacity (Chosen.Refused number) = refused s p number
-settled_at s p bytes capacity (Chosen.At r) =
+abbrev pub settled_at : List ℕ → List ℕ → List ℕ → ℕ → Result Room ℕ → RegisterOutcome
+settled_at s p bytes capacity (Err number) = refused s p number
+settled_at s p bytes capacity (Ok r) =
     record {
-      answer = Registered.Number r.number;
+      answer = Ok r.number;
       books = taken s r.number.0 (entry_at r.start capacity (length bytes) 1 0);
       pool = put r.start bytes p;
     }
@@ -41,7 +41,7 @@ registered s p n bytes capacity =
     cond (ltb capacity (length bytes)) (refused s p 13) (settled_at s p bytes capacity (chosen s n (length p) capacity))
 
 -- the contract: answer, books and pool are the outcome's
-pub record Registers (o : RegisterOutcome) (s' p' : List ℕ) (r : Registered) : Type 0 where
+pub record Registers (o : RegisterOutcome) (s' p' : List ℕ) (r : Result BufferNumber ℕ) : Type 0 where
   pub answer_is : r ≡ o.answer
   pub books_are : s' ≡ o.books
   pub pool_is : p' ≡ o.pool

@@ -8,22 +8,21 @@ use Rattle.books.specs.declared.Entry.{Entry}
 use Rattle.books.specs.Entry.{used_of, entry_of}
 use Rattle.listings.specs.Listing.{taken, released}
 use Rattle.room.specs.declared.Room.{Room}
-use Rattle.room.specs.declared.Chosen.{Chosen}
 use Rattle.room.specs.Room.{chosen, entry_at}
 use Rattle.room.specs.RoomLaws.{room_says, number_room, number_few}
-use Rattle.pool.specs.declared.Registered.{Registered}
 use Rattle.pool.specs.Register.{registered, settled_at, refused, Registers, RegistersAt, is_held, let_go, LetsGo}
+use Rattle.std.specs.Prelude.{Result, Ok, Err}
 
 module _ (s p : List ℕ) (n : ℕ) (bytes : List ℕ) (capacity : ℕ) where
-  pub short : capacity < length bytes → Registers (registered s p n bytes capacity) s p (Registered.Refused 13)
+  pub short : capacity < length bytes → Registers (registered s p n bytes capacity) s p (Err 13)
   unfolding registered
   short h = let t = lt-ltb capacity (length bytes) h in record { answer_is = cc; books_are = cc; pool_is = cc }
 
-  pub not_placed : {c : Chosen} {number : ℕ} → length bytes ≤ capacity → c ≡ chosen s n (length p) capacity → c ≡ Chosen.Refused number → Registers (registered s p n bytes capacity) s p (Registered.Refused number)
+  pub not_placed : {c : Result Room ℕ} {number : ℕ} → length bytes ≤ capacity → c ≡ chosen s n (length p) capacity → c ≡ Err number → Registers (registered s p n bytes capacity) s p (Err number)
   unfolding registered
   not_placed h e q = let t = le-ltb capacity (length bytes) h in record { answer_is = cc; books_are = cc; pool_is = cc }
 
-  pub placed : {c : Chosen} {r : Room} {s' p' : List ℕ} → length bytes ≤ capacity → c ≡ chosen s n (length p) capacity → c ≡ Chosen.At r → RegistersAt s p r bytes capacity s' p' → Registers (registered s p n bytes capacity) s' p' (Registered.Number r.number)
+  pub placed : {c : Result Room ℕ} {r : Room} {s' p' : List ℕ} → length bytes ≤ capacity → c ≡ chosen s n (length p) capacity → c ≡ Ok r → RegistersAt s p r bytes capacity s' p' → Registers (registered s p n bytes capacity) s' p' (Ok r.number)
   unfolding registered
   placed h e q w =
       let t = le-ltb capacity (length bytes) h in
@@ -32,7 +31,7 @@ module _ (s p : List ℕ) (n : ℕ) (bytes : List ℕ) (capacity : ℕ) where
       record { answer_is = cc; books_are = cc; pool_is = cc }
 
   -- for the code: the bytes fit where they go
-  pub bytes_room : {c : Chosen} {r : Room} → length bytes ≤ capacity → c ≡ chosen s n (length p) capacity → c ≡ Chosen.At r → r.start + length bytes ≤ length p
+  pub bytes_room : {c : Result Room ℕ} {r : Room} → length bytes ≤ capacity → c ≡ chosen s n (length p) capacity → c ≡ Ok r → r.start + length bytes ≤ length p
   bytes_room {c} {r} h e q = omega (arith, (room_says s n (length p) capacity r (sym e ∙ q)).gap.fits)
 
   pub bytes_few : length bytes ≤ capacity → capacity < 2 ^ 32 → length bytes < 2 ^ 32

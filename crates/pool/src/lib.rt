@@ -9,14 +9,7 @@ ghost use Rattle.pool.specs.Register.{registered, Registers, RegistersAt, let_go
 
 use books::Entry;
 use counts::{BufferNumber, ByteCount, ByteSum};
-use room::{Chosen, Room};
-
-// What registering answers: the buffer's number, or the number of the refusal.
-#[derive(Clone, Copy)]
-pub enum Registered {
-    Number(BufferNumber),
-    Refused(u32),
-}
+use room::Room;
 
 // The caller's bytes at the room that was chosen, under its hold.
 fn register_at(books: &mut [u8], pool: &mut [u8], r: Room, bytes: &[u8], capacity: ByteCount)
@@ -42,23 +35,17 @@ pub fn register(
     n: u32,
     bytes: &[u8],
     capacity: ByteCount,
-) -> Registered
+) -> Result<BufferNumber, u32>
     requires { (used_of books.old ≤ n) × (4 + 20 * n ≤ length books.old) × (n ≤ 65536) × (length pool.old < 2 ^ 32) }
     ensures { Registers (registered books.old pool.old n bytes.now capacity.0) books.new pool.new result }
 {
     if (capacity.0 as usize) < bytes.len() {
-        return Registered::Refused(13);
+        return Err(13);
     }
     let size = ByteCount(pool.len() as u32);
-    let chosen = making_room::choose(books, n, size, ByteSum(capacity.0 as u64));
-    match chosen {
-        Chosen::Refused(number) => Registered::Refused(number),
-        Chosen::At(r) => {
-            let number = r.number;
-            register_at(books, pool, r, bytes, capacity);
-            Registered::Number(number)
-        }
-    }
+    let r = making_room::choose(books, n, size, ByteSum(capacity.0 as u64))?;
+    register_at(books, pool, r, bytes, capacity);
+    Ok(r.number)
 }
 
 // The caller lets a buffer go: 0, or 13 where it isn't there or isn't the caller's to let go.

@@ -2,13 +2,11 @@
 use Rattle.std.specs.Prelude.{ℕ, ◌+◌, ◌*◌, ◌/◌, ◌%◌, ◌≤◌, ◌<◌, ◌^◌, ◌≡◌, ◌≢◌, Bool, true, false, ◌&&◌, cond, List, [], ◌∷◌, ◌++◌, length, get_or, eqb, ltb}
 use Rattle.std.proofs.Math.Path.{refl, sym, ap}
 use Rattle.std.proofs.Common.{◌∙◌, eq-eqb, ne_eqb}
-use Rattle.std.proofs.Math.Option.{some}
+use Rattle.std.specs.Prelude.{Some}
 use native.Mathlib.Omega.{arith}
 use Rattle.std.proofs.Math.Decide.{ℕ_discrete}
 use Rattle.words.specs.WordLaws.{Bytes}
-use Rattle.pool.specs.declared.Registered.{Registered}
 use Rattle.pool.specs.Register.{refusal_of, settled_at, registered}
-use Rattle.room.specs.declared.Chosen.{Chosen}
 use Rattle.room.specs.Room.{chosen}
 use Rattle.room.specs.RoomLaws.{number_few}
 use Rattle.state.specs.World.{World, world}
@@ -54,11 +52,13 @@ use Rattle.promise.specs.OnBytes.{
   taken_by,
   DidBytes,
   Sends,
-  none,
+  None,
   next,
   astray,
 }
 use Rattle.promise.proofs.RefusedLaws.{sent_nothing, nothing-accepted, nothing-taken}
+use Rattle.std.specs.Prelude.{Result, Ok, Err}
+use Rattle.room.specs.declared.Room.{Room}
 
 -- ---- one call
 
@@ -181,12 +181,12 @@ module _ {w : World} (g : Between w) where
       rw (ap (λ (a : RegisterAnswer). a.answer) (register_steps w bytes capacity (between-tested g)))
       (by_size (ltb capacity (length bytes)))
     where
-      at : (x : Chosen) → chosen w.books w.state.numbers (length w.pool) capacity ≡ x → number_in (settled_at w.books w.pool bytes capacity x).answer < 2 ^ 32
-      at (Chosen.Refused n) e = omega arith
-      at (Chosen.At r) e =
+      at : (x : Result Room ℕ) → chosen w.books w.state.numbers (length w.pool) capacity ≡ x → number_in (settled_at w.books w.pool bytes capacity x).answer < 2 ^ 32
+      at (Err n) e = omega arith
+      at (Ok r) e =
           omega (arith, number_few w.books w.state.numbers (length w.pool) capacity refl e (bounds_say w.state g.holding.run.fit.bounds).numbers)
 
-      by_size : (x : Bool) → number_in (cond x (record { answer = Registered.Refused 13; books = w.books; pool = w.pool }) (settled_at w.books w.pool bytes capacity (chosen w.books w.state.numbers (length w.pool) capacity))).answer < 2 ^ 32
+      by_size : (x : Bool) → number_in (cond x (record { answer = Err 13; books = w.books; pool = w.pool }) (settled_at w.books w.pool bytes capacity (chosen w.books w.state.numbers (length w.pool) capacity))).answer < 2 ^ 32
       by_size true = omega arith
       by_size false = at (chosen w.books w.state.numbers (length w.pool) capacity) refl
 
@@ -231,7 +231,7 @@ pub record Ran (y : DidBytes) (x : Did) : Type 0 where
 
 pub sends_ran : {m : Memory} {cs : List Call} {y : DidBytes} {w : World} → Between w → HoldsWorld m w → Sends m cs y → Ran y (run w cs)
 unfolding run
-sends_ran g h none = record { holds = h; accepted_are = refl; taken_are = refl }
+sends_ran g h None = record { holds = h; accepted_are = refl; taken_are = refl }
 sends_ran {w = w} g h (astray {m = m} {l = l} {n = n} {c = c} {r = r} live e s d ss) =
     let k : live n ≡ m = ap live (sent_nothing l c s d) ∙ e in
     let rest = sends_ran g (rw k h) ss in
@@ -284,5 +284,5 @@ module _ (a : Wanted) (kinds : List ℕ) (m : Memory) {r : ℕ} {m₁ : Memory} 
       rw (bytes_ran.accepted_are, bytes_ran.taken_are, bytes_ran.holds.is) (in_order_lem a m.slots m.pool m.books set_up_is cs)
 
   -- a row read there is that row of the batch that a drop would take; `sent::read_row` has its words
-  pub bytes_read : (c i : ℕ) → is_row (world_in y.memory) c i ≡ true → read_as (world_in y.memory) (read_row (world_in y.memory) c i) ≡ some (get_or (get_or (taken_rows (world_in y.memory)) i []) c null)
+  pub bytes_read : (c i : ℕ) → is_row (world_in y.memory) c i ≡ true → read_as (world_in y.memory) (read_row (world_in y.memory) c i) ≡ Some (get_or (get_or (taken_rows (world_in y.memory)) i []) c null)
   bytes_read c i = rw bytes_ran.holds.is (reads_taken a m.slots m.pool m.books set_up_is p.slots cs c i)

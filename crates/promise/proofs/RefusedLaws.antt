@@ -2,9 +2,7 @@
 use Rattle.std.specs.Prelude.{ℕ, ◌+◌, ◌*◌, ◌/◌, ◌≤◌, ◌<◌, ◌^◌, ◌≡◌, refl, ◌≢◌, Bool, true, false, cond, List, [], length, eqb, ltb}
 use Rattle.std.proofs.Common.{sym, ◌∙◌, ap, arith}
 use Rattle.std.proofs.Math.Decide.{ℕ_discrete}
-use Rattle.pool.specs.declared.Registered.{Registered}
 use Rattle.pool.specs.Register.{settled_at, registered}
-use Rattle.room.specs.declared.Chosen.{Chosen}
 use Rattle.room.specs.Room.{chosen}
 use Rattle.room.specs.RoomLaws.{number_few}
 use Rattle.state.specs.declared.RowAnswer.{RowAnswer}
@@ -24,6 +22,8 @@ use Rattle.capi.specs.QuietLaws.{number_of, value_of, Quiet, answer-number, answ
 use Rattle.history.specs.Call.{Call, push, finish, drop, register, let_go, limit, read}
 use Rattle.history.proofs.StrayLaws.{not_accepted, none-taken}
 use Rattle.promise.specs.OnBytes.{Sent, sent_push, sent_finish, sent_drop, sent_register, sent_let_go, sent_limit, sent_read, upper, accepted_by, taken_by, refused_by}
+use Rattle.std.specs.Prelude.{Result, Ok, Err}
+use Rattle.room.specs.declared.Room.{Room}
 
 -- ---- the second number of an answer that has two: it fits a word, in every world
 
@@ -49,11 +49,11 @@ register_value : (w : World) (bytes : List ℕ) (capacity : ℕ) → number_in (
 unfolding registered
 register_value w bytes capacity = go (ℕ_discrete (tested w) 0)
   where
-    at : w.state.numbers ≤ 65536 → (x : Chosen) → chosen w.books w.state.numbers (length w.pool) capacity ≡ x → number_in (settled_at w.books w.pool bytes capacity x).answer < 2 ^ 32
-    at h (Chosen.Refused n) e = omega arith
-    at h (Chosen.At r) e = omega (arith, number_few w.books w.state.numbers (length w.pool) capacity refl e h)
+    at : w.state.numbers ≤ 65536 → (x : Result Room ℕ) → chosen w.books w.state.numbers (length w.pool) capacity ≡ x → number_in (settled_at w.books w.pool bytes capacity x).answer < 2 ^ 32
+    at h (Err n) e = omega arith
+    at h (Ok r) e = omega (arith, number_few w.books w.state.numbers (length w.pool) capacity refl e h)
 
-    by_size : w.state.numbers ≤ 65536 → (x : Bool) → number_in (cond x (record { answer = Registered.Refused 13; books = w.books; pool = w.pool }) (settled_at w.books w.pool bytes capacity (chosen w.books w.state.numbers (length w.pool) capacity))).answer < 2 ^ 32
+    by_size : w.state.numbers ≤ 65536 → (x : Bool) → number_in (cond x (record { answer = Err 13; books = w.books; pool = w.pool }) (settled_at w.books w.pool bytes capacity (chosen w.books w.state.numbers (length w.pool) capacity))).answer < 2 ^ 32
     by_size h true = omega arith
     by_size h false = at h (chosen w.books w.state.numbers (length w.pool) capacity) refl
 

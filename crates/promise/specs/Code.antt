@@ -1,9 +1,7 @@
 -- A history of the code: what each function made, as its contract says it, and the rows that it accepted and the batches that it took.
 use Rattle.std.specs.Prelude.{ℕ, ◌≡◌, ◌≢◌, List, [], ◌∷◌, ◌++◌, eqb}
-use Rattle.pool.specs.declared.Registered.{Registered}
 use Rattle.pool.specs.Register.{refusal_of}
 use Rattle.state.specs.declared.BatchCoalescer.{BatchCoalescer}
-use Rattle.state.specs.declared.Limit.{Limit}
 use Rattle.state.specs.World.{World, world}
 use Rattle.rules.specs.declared.Step.{Step}
 use Rattle.rules.specs.Batch.{Batch, batch_rows}
@@ -14,6 +12,9 @@ use Rattle.completed.specs.declared.Dropped.{Dropped}
 use Rattle.completed.specs.Drop.{Drops}
 use Rattle.buffers.specs.Buffers.{RegistersCall, LetsGoCall}
 use Rattle.history.specs.Call.{OfBytes, Call, push, finish, drop, register, let_go, limit, read, Did, if_done, front}
+use Rattle.std.specs.Prelude.{Option, Result}
+use Rattle.counts.specs.declared.BufferNumber.{BufferNumber}
+use Rattle.counts.specs.declared.RowCount.{RowCount}
 
 -- a call of the code on a world, and the number that it answered: 0 or a refusal. The memories that are not lent to be changed are those before it
 pub data Made (w : World) : Call → ℕ → Did → Type 0 where
@@ -24,11 +25,11 @@ pub data Made (w : World) : Call → ℕ → Did → Type 0 where
   -- next_completed_batch
   by_drop : {r : Dropped} {books : List ℕ} → Drops (drop_call w) books r → Made w drop r.number (record { world = world r.state w.slots w.pool books; accepted = []; taken = front w r.number (eqb w.state.queued 0) })
   -- register_buffer
-  by_register : {bytes : List ℕ} {capacity : ℕ} {r : Registered} {pool books : List ℕ} → RegistersCall (register_call w bytes capacity) pool books r → Made w (register bytes capacity) (refusal_of r) (record { world = world w.state w.slots pool books; accepted = []; taken = [] })
+  by_register : {bytes : List ℕ} {capacity : ℕ} {r : Result BufferNumber ℕ} {pool books : List ℕ} → RegistersCall (register_call w bytes capacity) pool books r → Made w (register bytes capacity) (refusal_of r) (record { world = world w.state w.slots pool books; accepted = []; taken = [] })
   -- let_go
   by_let_go : {k r : ℕ} {books : List ℕ} → LetsGoCall (let_go_call w k) books r → Made w (let_go k) r (record { world = world w.state w.slots w.pool books; accepted = []; taken = [] })
   -- set_biggest_coalesce_batch_size
-  by_limit : {l : Limit} {s : BatchCoalescer} → s ≡ with_limit w.state l → Made w (limit l) 0 (record { world = world s w.slots w.pool w.books; accepted = []; taken = [] })
+  by_limit : {l : Option RowCount} {s : BatchCoalescer} → s ≡ with_limit w.state l → Made w (limit l) 0 (record { world = world s w.slots w.pool w.books; accepted = []; taken = [] })
   -- read_row, read_buffer, buffer_refusal, and the reads of the state: nothing is lent to be changed
   by_read : Made w read 0 (record { world = w; accepted = []; taken = [] })
 

@@ -1,7 +1,6 @@
 -- Two outcomes that keep a promise at the same input are the same: a law for each form of contract.
 use Rattle.std.specs.Prelude.{ℕ, ◌≡◌, List}
 use Rattle.std.proofs.Common.{sym, ◌∙◌}
-use Rattle.pool.specs.declared.Registered.{Registered}
 use Rattle.state.specs.World.{World}
 use Rattle.rules.specs.declared.Step.{Step}
 use Rattle.rules.specs.Batch.{Batch}
@@ -13,6 +12,8 @@ use Rattle.completed.specs.Drop.{Drops}
 use Rattle.set_up.specs.SetUp.{SetsUp}
 use Rattle.buffers.specs.Buffers.{RegistersCall, LetsGoCall}
 use Rattle.capi.specs.Api.{Memory, Said, said, Told, told}
+use Rattle.std.specs.Prelude.{Result}
+use Rattle.counts.specs.declared.BufferNumber.{BufferNumber}
 
 -- ---- equalities
 
@@ -49,7 +50,7 @@ same_drop p o =
     (same_outcome p.state_is o.state_is, same_outcome p.number_is o.number_is, same_outcome p.rows_are o.rows_are, same_outcome p.books_are o.books_are)
 
 -- register_buffer
-pub same_register : {a : RegisterAnswer} {pool pool' books books' : List ℕ} {r q : Registered} → RegistersCall a pool books r → RegistersCall a pool' books' q → (r ≡ q) × (pool ≡ pool') × (books ≡ books')
+pub same_register : {a : RegisterAnswer} {pool pool' books books' : List ℕ} {r q : Result BufferNumber ℕ} → RegistersCall a pool books r → RegistersCall a pool' books' q → (r ≡ q) × (pool ≡ pool') × (books ≡ books')
 same_register p o = (same_outcome p.answer_is o.answer_is, same_outcome p.pool_is o.pool_is, same_outcome p.books_are o.books_are)
 
 -- let_go

@@ -11,7 +11,6 @@ use Rattle.words.specs.RunLaws.{length-lay, length-read}
 use Rattle.books.specs.Entry.{used_of}
 use Rattle.listings.specs.Listing.{listed_one, over_list}
 use Rattle.counts.specs.declared.BufferNumber.{BufferNumber}
-use Rattle.state.specs.declared.OpenBlock.{OpenBlock}
 use Rattle.state.specs.World.{World, column_of}
 use Rattle.state.specs.Layout.{is_views, list_place, list_length}
 use Rattle.rules.specs.Batch.{Batch, record_of, listed_number, list_of}
@@ -27,6 +26,7 @@ use Rattle.push_safety.specs.Firm.{Firm, FirmGoes, run_firm, same_list_length, w
 use Rattle.push_safety.specs.StepGoes.{raised_goes, list_cases, counting_firm, counting_goes}
 use Rattle.push_safety.specs.BlockGoes.{closed_goes, closed-shut}
 use Rattle.push_safety.specs.Along.{along_in}
+use Rattle.std.specs.Prelude.{Some, None}
 
 -- the list of a column as words
 pub listed_word : (b : Batch) (c i : ℕ) → i < (record_of b c).count → word32 (list_of b c) (4 * i) ≡ listed_number b c i
@@ -84,7 +84,7 @@ module _ (w : World) (b : Batch) (c : ℕ) where
         (same_list_length w written (same_refl w.state) g.1 slot d)
 
     -- where its block is closed
-    pub attached_goes : Run w → (column_of w.state c).block ≡ OpenBlock.Closed → Goes w (list_attached w b c)
+    pub attached_goes : Run w → (column_of w.state c).block ≡ None → Goes w (list_attached w b c)
     unfolding list_attached
     attached_goes r o =
         let g = books (run_firm r) in
@@ -93,9 +93,9 @@ module _ (w : World) (b : Batch) (c : ℕ) where
         (counting_goes (filling w) (c + 1) joint a.run r.fit.place (omega arith) (few (run_firm r)) (plain (run_firm r))
         (λ d k e y q. shut d k (omega arith) q))
       where
-        shut : (d : ℕ) (k : BufferNumber) → d ≡ c → (column_of w.state d).block ≡ OpenBlock.Number k → ⊥
+        shut : (d : ℕ) (k : BufferNumber) → d ≡ c → (column_of w.state d).block ≡ Some k → ⊥
         shut d k e q =
-            let p : (column_of w.state c).block ≡ OpenBlock.Number k = rw e at q in
+            let p : (column_of w.state c).block ≡ Some k = rw e at q in
             let z : ◌≡◌ {A = ℕ} 0 1 = cc in omega arith
 
 -- a part attached

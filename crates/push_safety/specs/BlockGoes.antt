@@ -7,7 +7,6 @@ use Rattle.words.specs.WordLaws.{length-with_word32}
 use Rattle.counts.specs.declared.BufferNumber.{BufferNumber}
 use Rattle.books.specs.Entry.{used_of, entry_of}
 use Rattle.state.specs.declared.Column.{Column}
-use Rattle.state.specs.declared.OpenBlock.{OpenBlock}
 use Rattle.state.specs.World.{World, column_of}
 use Rattle.state.specs.Layout.{is_views, list_place, list_length}
 use Rattle.rules.specs.Steps.{with_column, in_state, in_slots, counting, listing}
@@ -18,14 +17,15 @@ use Rattle.push_safety.specs.Run.{Run, Goes}
 use Rattle.push_safety.specs.TestedLaws.{bounds_say}
 use Rattle.push_safety.specs.Firm.{run_firm, goes_refl, goes_trans, slots_goes}
 use Rattle.push_safety.specs.StepGoes.{column-new, with_column_goes, counting_goes}
+use Rattle.std.specs.Prelude.{Option, Some, None}
 
 -- ---- the open block
 
-has_number : (o : OpenBlock) → has_block o ≡ true → o ≡ OpenBlock.Number (record { 0 = block_number o })
-has_number (OpenBlock.Number k) e = refl
-has_number OpenBlock.Closed e = absurd (true≢false (sym e))
+has_number : (o : Option BufferNumber) → has_block o ≡ true → o ≡ Some (record { 0 = block_number o })
+has_number (Some k) e = refl
+has_number None e = absurd (true≢false (sym e))
 
-pub open_block : (w : World) (c : ℕ) → is_open w c ≡ true → (column_of w.state c).block ≡ OpenBlock.Number (record { 0 = open_number w c })
+pub open_block : (w : World) (c : ℕ) → is_open w c ≡ true → (column_of w.state c).block ≡ Some (record { 0 = open_number w c })
 unfolding open_number
 open_block w c e = has_number (column_of w.state c).block e
 
@@ -59,29 +59,29 @@ module _ (w : World) (c : ℕ) where
   put = in_slots w (with_word32 w.slots (list_place w.state (filling w) c + 4 * list_length w (filling w) c) (open_number w c))
 
   abbrev shut : World
-  shut = in_state put (with_column w.state c (column_of w.state c).source OpenBlock.Closed)
+  shut = in_state put (with_column w.state c (column_of w.state c).source None)
 
-  closed_block : (d : ℕ) → d ≡ c → is_views w.state c ≡ true → (column_of shut.state d).block ≡ OpenBlock.Closed
+  closed_block : (d : ℕ) → d ≡ c → is_views w.state c ≡ true → (column_of shut.state d).block ≡ None
   closed_block d e y =
-      rw e (ap (λ (x : Column). x.block) (column-new w.state c (column_of w.state c).source OpenBlock.Closed y))
+      rw e (ap (λ (x : Column). x.block) (column-new w.state c (column_of w.state c).source None y))
 
   join_goes : Run w → c < w.state.columns → is_views w.state c ≡ true → list_length w (filling w) c < w.state.lists → Goes w (counting shut (filling w) (c + 1) (list_length w (filling w) c + 1))
   join_goes r h y l =
       let a : Goes w put = slots_goes refl (length-with_word32 w.slots (list_place w.state (filling w) c + 4 * list_length w (filling w) c) (open_number w c)) refl refl r in
-      let b : Goes put shut = with_column_goes c (column_of w.state c).source OpenBlock.Closed a.run (λ p q. r.kept c h y) (λ k q. absurd (not_number k q)) in
+      let b : Goes put shut = with_column_goes c (column_of w.state c).source None a.run (λ p q. r.kept c h y) (λ k q. absurd (not_number k q)) in
       goes_trans (goes_trans a b)
       (counting_goes (filling w) (c + 1) (list_length w (filling w) c + 1) b.run r.fit.place (omega arith)
       (omega (arith, (bounds_say w.state r.fit.bounds).lists))
       (λ d e. (omega arith, λ n. absurd (true≢false (sym (views d e) ∙ n))))
       (λ d k e z q. not_number k (sym (closed_block d (omega arith) y) ∙ q)))
     where
-      not_number : (k : BufferNumber) → OpenBlock.Closed ≡ OpenBlock.Number k → ⊥
+      not_number : (k : BufferNumber) → None ≡ Some k → ⊥
       not_number k q = let z : ◌≡◌ {A = ℕ} 0 1 = cc in omega arith
 
       views : (d : ℕ) → d + 1 ≡ c + 1 → is_views shut.state d ≡ true
       views d e =
           let q : d ≡ c = omega arith in
-          rw q (same_views (same-column w.state c (column_of w.state c).source OpenBlock.Closed) c ∙ y)
+          rw q (same_views (same-column w.state c (column_of w.state c).source None) c ∙ y)
 
 pub closed_goes : (w : World) (c : ℕ) → Run w → c < w.state.columns → is_views w.state c ≡ true → Goes w (closed w c)
 unfolding closed listing counting
@@ -89,10 +89,10 @@ closed_goes w c r h y =
     by_cond (Goes w) (is_open w c) (λ o. join_goes w c r h y (open_room c r h y o)) (λ o. goes_refl r)
 
 -- and it is closed then
-pub closed-shut : (w : World) (c : ℕ) → is_views w.state c ≡ true → (column_of (closed w c).state c).block ≡ OpenBlock.Closed
+pub closed-shut : (w : World) (c : ℕ) → is_views w.state c ≡ true → (column_of (closed w c).state c).block ≡ None
 unfolding closed listing counting
-closed-shut w c y = by_cond (λ (v : World). (column_of v.state c).block ≡ OpenBlock.Closed) (is_open w c) (λ o. closed_block w c c refl y) (λ o. none (column_of w.state c).block o)
+closed-shut w c y = by_cond (λ (v : World). (column_of v.state c).block ≡ None) (is_open w c) (λ o. closed_block w c c refl y) (λ o. none (column_of w.state c).block o)
   where
-    none : (o : OpenBlock) → has_block o ≡ false → o ≡ OpenBlock.Closed
-    none (OpenBlock.Number k) e = absurd (true≢false e)
-    none OpenBlock.Closed e = refl
+    none : (o : Option BufferNumber) → has_block o ≡ false → o ≡ None
+    none (Some k) e = absurd (true≢false e)
+    none None e = refl

@@ -5,7 +5,6 @@ use Rattle.std.proofs.Math.Decide.{dec_lt}
 use Rattle.search.specs.Cases.{by_cond}
 use Rattle.counts.specs.declared.BufferNumber.{BufferNumber}
 use Rattle.state.specs.declared.Column.{Column}
-use Rattle.state.specs.declared.OpenBlock.{OpenBlock}
 use Rattle.state.specs.World.{World, column_of}
 use Rattle.state.specs.Layout.{is_views, tally, list_length}
 use Rattle.rules.specs.Steps.{each, listing, counting, queueing}
@@ -22,24 +21,25 @@ use Rattle.push_safety.specs.Firm.{Firm, Spare, FirmGoes, run_firm, firm_goes, g
 use Rattle.push_safety.specs.StepGoes.{column_cases, list_cases}
 use Rattle.push_safety.specs.BlockGoes.{closed_goes, closed-shut}
 use Rattle.push_safety.specs.Along.{Along, along_refl, along_trans, along_in}
+use Rattle.std.specs.Prelude.{Some, None}
 
 -- ---- no block is open
 
 pub record Shut (w : World) : Type 0 where
-  pub shut : (c : ℕ) → c < w.state.columns → is_views w.state c ≡ true → (column_of w.state c).block ≡ OpenBlock.Closed
+  pub shut : (c : ℕ) → c < w.state.columns → is_views w.state c ≡ true → (column_of w.state c).block ≡ None
 
 -- a block that is closed stays so when another is
-closed_stays : (w : World) (c d : ℕ) → (column_of w.state d).block ≡ OpenBlock.Closed → (column_of (closed w c).state d).block ≡ OpenBlock.Closed
+closed_stays : (w : World) (c d : ℕ) → (column_of w.state d).block ≡ None → (column_of (closed w c).state d).block ≡ None
 unfolding closed listing counting
 closed_stays w c d e =
-    by_cond (λ (v : World). (column_of v.state d).block ≡ OpenBlock.Closed) (is_open w c)
-    (λ o. column_cases w.state c (column_of w.state c).source OpenBlock.Closed d (λ (x : Column). x.block ≡ OpenBlock.Closed) (λ q. refl) e)
+    by_cond (λ (v : World). (column_of v.state d).block ≡ None) (is_open w c)
+    (λ o. column_cases w.state c (column_of w.state c).source None d (λ (x : Column). x.block ≡ None) (λ q. refl) e)
     (λ o. e)
 
 -- the blocks of the first n columns are closed
 record ShutTo (w : World) (n : ℕ) (v : World) : Type 0 where
   along : Along w v
-  shut : (c : ℕ) → c < n → is_views w.state c ≡ true → (column_of v.state c).block ≡ OpenBlock.Closed
+  shut : (c : ℕ) → c < n → is_views w.state c ≡ true → (column_of v.state c).block ≡ None
 
 abbrev close : World → ℕ → World
 close v c = cond (is_views v.state c) (closed v c) v
@@ -59,12 +59,12 @@ close_one w v n h a = go (is_views v.state n) refl
           shut = λ c l z. at c l z (dec_lt c n);
         }
       where
-        at : (c : ℕ) → c < suc n → is_views w.state c ≡ true → Dec (c < n) → (column_of (closed v n).state c).block ≡ OpenBlock.Closed
+        at : (c : ℕ) → c < suc n → is_views w.state c ≡ true → Dec (c < n) → (column_of (closed v n).state c).block ≡ None
         at c l z (yes d) = closed_stays v n c (a.shut c d z)
         at c l z (no d) = let q : c ≡ n = omega arith in rw q (closed-shut v n y)
     go false y = record { along = a.along; shut = λ c l z. at c l z (dec_lt c n) }
       where
-        at : (c : ℕ) → c < suc n → is_views w.state c ≡ true → Dec (c < n) → (column_of v.state c).block ≡ OpenBlock.Closed
+        at : (c : ℕ) → c < suc n → is_views w.state c ≡ true → Dec (c < n) → (column_of v.state c).block ≡ None
         at c l z (yes d) = a.shut c d z
         at c l z (no d) =
             let q : c ≡ n = omega arith in
@@ -107,7 +107,7 @@ queueing_firm {w} rows r l f =
 pub shut_spare : {w : World} → Shut w → Spare w
 shut_spare {w} s = record { room = λ c k h y o. absurd (not_number k (sym (s.shut c h y) ∙ o)) }
   where
-    not_number : (k : BufferNumber) → OpenBlock.Closed ≡ OpenBlock.Number k → ⊥
+    not_number : (k : BufferNumber) → None ≡ Some k → ⊥
     not_number k q = let z : ◌≡◌ {A = ℕ} 0 1 = cc in omega arith
 
 pub queueing-shut : {w : World} (rows : ℕ) → Shut w → Shut (queueing w rows)

@@ -12,7 +12,6 @@ use Rattle.tallies.specs.Tally.{tally_of}
 use Rattle.tallies.specs.TallyLaws.{framed_tally}
 use Rattle.counts.specs.declared.BufferNumber.{BufferNumber}
 use Rattle.state.specs.declared.BatchCoalescer.{BatchCoalescer}
-use Rattle.state.specs.declared.OpenBlock.{OpenBlock}
 use Rattle.state.specs.World.{World, column_of}
 use Rattle.state.specs.Layout.{is_views, books_length, tally, list_length}
 use Rattle.rules.specs.Ranges.{is_kind, in_bounds}
@@ -23,6 +22,7 @@ use Rattle.rules.specs.SameLaws.{same_width, same_views, same_slots_length, same
 use Rattle.push_safety.specs.Run.{Fit, Run, ColumnReads, RowReads, Readable, Goes}
 use Rattle.push_safety.specs.TestedLaws.{bounds_say}
 use Rattle.push_safety.specs.BooksGo.{BooksRun, BooksGo, go_refl}
+use Rattle.std.specs.Prelude.{Some}
 
 -- Run without its room
 pub record Firm (w : World) : Type 0 where
@@ -31,11 +31,11 @@ pub record Firm (w : World) : Type 0 where
   pub lists : (slot c : ℕ) → slot ≤ w.state.queue → c < w.state.columns → list_length w slot c ≤ w.state.lists
   pub none : (slot c : ℕ) → slot ≤ w.state.queue → c < w.state.columns → is_views w.state c ≡ false → list_length w slot c ≡ 0
   pub kept : (c : ℕ) → c < w.state.columns → is_views w.state c ≡ true → 1 ≤ (column_of w.state c).source.current.0
-  pub block : (c : ℕ) (k : BufferNumber) → c < w.state.columns → is_views w.state c ≡ true → (column_of w.state c).block ≡ OpenBlock.Number k → k.0 < used_of w.books
+  pub block : (c : ℕ) (k : BufferNumber) → c < w.state.columns → is_views w.state c ≡ true → (column_of w.state c).block ≡ Some k → k.0 < used_of w.books
 
 -- the room for the open block of each column of views
 pub record Spare (w : World) : Type 0 where
-  pub room : (c : ℕ) (k : BufferNumber) → c < w.state.columns → is_views w.state c ≡ true → (column_of w.state c).block ≡ OpenBlock.Number k → list_length w w.state.place c < w.state.lists
+  pub room : (c : ℕ) (k : BufferNumber) → c < w.state.columns → is_views w.state c ≡ true → (column_of w.state c).block ≡ Some k → list_length w w.state.place c < w.state.lists
 
 -- the entries lie in the books
 books_room : (s : BatchCoalescer) → 4 + 20 * s.numbers ≤ books_length s
@@ -146,7 +146,7 @@ pub record Shown (w v : World) : Type 0 where
   pub lists : (slot c : ℕ) → slot ≤ w.state.queue → c < w.state.columns → list_length v slot c ≤ w.state.lists
   pub none : (slot c : ℕ) → slot ≤ w.state.queue → c < w.state.columns → is_views w.state c ≡ false → list_length v slot c ≡ 0
   pub kept : (c : ℕ) → c < w.state.columns → is_views w.state c ≡ true → 1 ≤ (column_of v.state c).source.current.0
-  pub block : (c : ℕ) (k : BufferNumber) → c < w.state.columns → is_views w.state c ≡ true → (column_of v.state c).block ≡ OpenBlock.Number k → k.0 < used_of v.books
+  pub block : (c : ℕ) (k : BufferNumber) → c < w.state.columns → is_views w.state c ≡ true → (column_of v.state c).block ≡ Some k → k.0 < used_of v.books
 
 -- Goes without its room
 pub record FirmGoes (w v : World) : Type 0 where
@@ -169,7 +169,7 @@ firm_goes {w} {v} f k g s =
     }
 
 -- the room, in the same terms
-pub spare_goes : (w v : World) → SameSetUp w.state v.state → ((c : ℕ) (k : BufferNumber) → c < w.state.columns → is_views w.state c ≡ true → (column_of v.state c).block ≡ OpenBlock.Number k → list_length v v.state.place c < w.state.lists) → Spare v
+pub spare_goes : (w v : World) → SameSetUp w.state v.state → ((c : ℕ) (k : BufferNumber) → c < w.state.columns → is_views w.state c ≡ true → (column_of v.state c).block ≡ Some k → list_length v v.state.place c < w.state.lists) → Spare v
 spare_goes w v e h =
     record {
       room = λ c k l y o. omega (arith, e.lists, h c k (rw e.columns at l) (rw (same_views e c) at y) o);

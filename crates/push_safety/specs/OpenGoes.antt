@@ -13,11 +13,9 @@ use Rattle.books.specs.Entry.{used_of, entry_of}
 use Rattle.listings.specs.Listing.{taken}
 use Rattle.sound.specs.Change.{Changed}
 use Rattle.room.specs.declared.Room.{Room}
-use Rattle.room.specs.declared.Chosen.{Chosen}
 use Rattle.room.specs.Room.{block_room, entry_at, taken_for, opened_as, opened}
 use Rattle.room.specs.RoomLaws.{Found-room, room_says, block_says}
 use Rattle.state.specs.declared.Column.{Column}
-use Rattle.state.specs.declared.OpenBlock.{OpenBlock}
 use Rattle.state.specs.World.{World, column_of}
 use Rattle.state.specs.Layout.{is_views, list_length}
 use Rattle.rules.specs.Batch.{Batch}
@@ -34,6 +32,7 @@ use Rattle.push_safety.specs.BooksGo.{taken_at, taken_go, taken_in, length_at, l
 use Rattle.push_safety.specs.Firm.{run_firm, same_list_length, goes_trans, within_goes}
 use Rattle.push_safety.specs.StepGoes.{column-new, with_column_goes}
 use Rattle.push_safety.specs.BlockGoes.{open_used, open_capacity}
+use Rattle.std.specs.Prelude.{Some, Result, Ok, Err}
 
 -- ---- sizes
 
@@ -98,12 +97,12 @@ module _ (w : World) (c min : ℕ) (r : Run w) (h : c < w.state.columns) (y : is
     booked = within_goes w (in_books w t) refl refl refl (taken_go k room.start size (run_firm r).books f.number fits small) changed.framed r
 
     abbrev v : World
-    v = in_state (in_books w t) (with_column w.state c source (OpenBlock.Number room.number))
+    v = in_state (in_books w t) (with_column w.state c source (Some room.number))
 
     goes : Goes w v
     goes =
         goes_trans booked
-        (with_column_goes c source (OpenBlock.Number room.number) booked.run
+        (with_column_goes c source (Some room.number) booked.run
         (λ p q. asked-some (column_of w.state c).source (record { 0 = min }) (r.kept c h y))
         (λ n q.
         let e : room.number ≡ n = cc in (
@@ -111,8 +110,8 @@ module _ (w : World) (c min : ℕ) (r : Run w) (h : c < w.state.columns) (y : is
           omega (arith, same_list_length w (in_books w t) (same_refl w.state) changed.framed w.state.place c),
         )))
 
-    block : (column_of v.state c).block ≡ OpenBlock.Number room.number
-    block = ap (λ (x : Column). x.block) (column-new w.state c source (OpenBlock.Number room.number) y)
+    block : (column_of v.state c).block ≡ Some room.number
+    block = ap (λ (x : Column). x.block) (column-new w.state c source (Some room.number) y)
 
     number : open_number v c ≡ k
     unfolding open_number
@@ -148,9 +147,9 @@ opened_anew w c min r h y =
     s : ℕ
     s = (asked (column_of w.state c).source (record { 0 = min })).size.0
 
-    go : list_length w (filling w) c + 1 ≤ w.state.lists → (a : Chosen) → block_room w.books w.state.numbers (length w.pool) s ≡ a → Holds (Opened w c min) (Among (11 ∷ 12 ∷ 14 ∷ [])) (opening w c min (taken_for w.books s 0 1 a))
-    go l (Chosen.Refused n) e = refused (block_among w.books w.state.numbers (length w.pool) s n e)
-    go l (Chosen.At room) e = held (done w c min r h y l room (room_says w.books w.state.numbers (length w.pool) s room (block_says w.books w.state.numbers (length w.pool) s room e).chooses))
+    go : list_length w (filling w) c + 1 ≤ w.state.lists → (a : Result Room ℕ) → block_room w.books w.state.numbers (length w.pool) s ≡ a → Holds (Opened w c min) (Among (11 ∷ 12 ∷ 14 ∷ [])) (opening w c min (taken_for w.books s 0 1 a))
+    go l (Err n) e = refused (block_among w.books w.state.numbers (length w.pool) s n e)
+    go l (Ok room) e = held (done w c min r h y l room (room_says w.books w.state.numbers (length w.pool) s room (block_says w.books w.state.numbers (length w.pool) s room e).chooses))
 
 pub opened_goes : (w : World) (c min : ℕ) → Run w → c < w.state.columns → is_views w.state c ≡ true → Holds (Goes w) (Among (10 ∷ 11 ∷ 12 ∷ 14 ∷ [])) (block_opened w c min)
 opened_goes w c min r h y = holds_more (opened_anew w c min r h y) (λ v e. e.goes) (λ n m. m)

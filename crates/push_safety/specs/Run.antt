@@ -4,12 +4,12 @@ use Rattle.words.specs.WordLaws.{Bytes}
 use Rattle.books.specs.Entry.{used_of, entry_of}
 use Rattle.pool.specs.Register.{is_held}
 use Rattle.counts.specs.declared.BufferNumber.{BufferNumber}
-use Rattle.state.specs.declared.OpenBlock.{OpenBlock}
 use Rattle.state.specs.World.{World, column_of}
 use Rattle.state.specs.Layout.{width_of, is_views, slots_length, books_length, list_length}
 use Rattle.rules.specs.Ranges.{in_bounds}
 use Rattle.rules.specs.Batch.{Batch, record_of, has_bitmap, listed_number, row_view}
 use Rattle.rules.specs.Views.{source_place}
+use Rattle.std.specs.Prelude.{Some}
 
 -- set-up within its bounds, memories of its lengths, the counts in range
 pub record Fit (w : World) : Type 0 where
@@ -31,8 +31,8 @@ pub record Run (w : World) : Type 0 where
   pub lists : (slot c : ℕ) → slot ≤ w.state.queue → c < w.state.columns → list_length w slot c ≤ w.state.lists
   pub none : (slot c : ℕ) → slot ≤ w.state.queue → c < w.state.columns → is_views w.state c ≡ false → list_length w slot c ≡ 0
   pub kept : (c : ℕ) → c < w.state.columns → is_views w.state c ≡ true → 1 ≤ (column_of w.state c).source.current.0
-  pub block : (c : ℕ) (k : BufferNumber) → c < w.state.columns → is_views w.state c ≡ true → (column_of w.state c).block ≡ OpenBlock.Number k → k.0 < used_of w.books
-  pub room : (c : ℕ) (k : BufferNumber) → c < w.state.columns → is_views w.state c ≡ true → (column_of w.state c).block ≡ OpenBlock.Number k → list_length w w.state.place c < w.state.lists
+  pub block : (c : ℕ) (k : BufferNumber) → c < w.state.columns → is_views w.state c ≡ true → (column_of w.state c).block ≡ Some k → k.0 < used_of w.books
+  pub room : (c : ℕ) (k : BufferNumber) → c < w.state.columns → is_views w.state c ≡ true → (column_of w.state c).block ≡ Some k → list_length w w.state.place c < w.state.lists
 
 -- a column of the batch: its values, bits and list lie in the body; the caller holds what it lists
 pub record ColumnReads (w : World) (b : Batch) (c : ℕ) : Type 0 where

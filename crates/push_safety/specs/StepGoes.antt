@@ -14,7 +14,6 @@ use Rattle.blocks.specs.declared.BufferSource.{BufferSource}
 use Rattle.counts.specs.declared.BufferNumber.{BufferNumber}
 use Rattle.state.specs.declared.BatchCoalescer.{BatchCoalescer}
 use Rattle.state.specs.declared.Column.{Column}
-use Rattle.state.specs.declared.OpenBlock.{OpenBlock}
 use Rattle.state.specs.World.{World, no_column, column_of}
 use Rattle.state.specs.Layout.{is_views, books_length, tally, list_length}
 use Rattle.rules.specs.Batch.{Batch}
@@ -26,6 +25,7 @@ use Rattle.rules.proofs.PartLaws.{counting_beside}
 use Rattle.push_safety.specs.Run.{Run, Goes}
 use Rattle.push_safety.specs.BooksGo.{go_refl, tally_go}
 use Rattle.push_safety.specs.Firm.{Firm, FirmGoes, run_firm, same_list_length, firm_goes, spare_goes, goes_both, slots_goes, slots_firm}
+use Rattle.std.specs.Prelude.{Option, Some}
 
 -- ---- only slots change
 
@@ -88,7 +88,7 @@ set_views [] c x e = absurd (true≢false (sym e))
 set_views (y ∷ l) zero x e = refl
 set_views (y ∷ l) (suc c) x e = set_views l c x e
 
-module _ (s : BatchCoalescer) (c : ℕ) (source : BufferSource) (block : OpenBlock) where
+module _ (s : BatchCoalescer) (c : ℕ) (source : BufferSource) (block : Option BufferNumber) where
   abbrev new : Column
   new = record { kind = (column_of s c).kind; source = source; block = block }
 
@@ -103,7 +103,7 @@ module _ (s : BatchCoalescer) (c : ℕ) (source : BufferSource) (block : OpenBlo
   column-new e = set_views s.column c new e
 
 -- a column with another source or block, in range
-pub with_column_goes : {w : World} (c : ℕ) (source : BufferSource) (block : OpenBlock) → Run w → (c < w.state.columns → is_views w.state c ≡ true → 1 ≤ source.current.0) → ((k : BufferNumber) → block ≡ OpenBlock.Number k → (k.0 < used_of w.books) × (list_length w w.state.place c < w.state.lists)) → Goes w (in_state w (with_column w.state c source block))
+pub with_column_goes : {w : World} (c : ℕ) (source : BufferSource) (block : Option BufferNumber) → Run w → (c < w.state.columns → is_views w.state c ≡ true → 1 ≤ source.current.0) → ((k : BufferNumber) → block ≡ Some k → (k.0 < used_of w.books) × (list_length w w.state.place c < w.state.lists)) → Goes w (in_state w (with_column w.state c source block))
 with_column_goes {w} c source block r some number =
     goes_both
     (firm_goes (run_firm r)
@@ -117,12 +117,12 @@ with_column_goes {w} c source block r some number =
           (λ q. some (rw q at h) (rw q at y))
           (r.kept d h y);
       block = λ d k h y.
-          column_cases w.state c source block d (λ (x : Column). x.block ≡ OpenBlock.Number k → k.0 < used_of w.books)
+          column_cases w.state c source block d (λ (x : Column). x.block ≡ Some k → k.0 < used_of w.books)
           (λ q o. (number k o).0)
           (r.block d k h y);
     }))
     (spare_goes w v e (λ d k h y o.
-    let z : list_length w w.state.place d < w.state.lists = column_cases w.state c source block d (λ (x : Column). x.block ≡ OpenBlock.Number k → list_length w w.state.place d < w.state.lists) (λ q o. rw q (number k o).1) (r.room d k h y) o in
+    let z : list_length w w.state.place d < w.state.lists = column_cases w.state c source block d (λ (x : Column). x.block ≡ Some k → list_length w w.state.place d < w.state.lists) (λ q o. rw q (number k o).1) (r.room d k h y) o in
     omega (arith, list w.state.place d, z)))
   where
     v : World
@@ -200,7 +200,7 @@ counting_firm {w} slot k x r h l f new =
     })
 
 -- where no block of the column whose list it is is open
-pub counting_goes : {w : World} (slot k x : ℕ) → Run w → slot ≤ w.state.queue → k ≤ w.state.columns → x < 2 ^ 32 → ((c : ℕ) → c + 1 ≡ k → (x ≤ w.state.lists) × (is_views w.state c ≡ false → x ≡ 0)) → ((c : ℕ) (n : BufferNumber) → c + 1 ≡ k → is_views w.state c ≡ true → (column_of w.state c).block ≡ OpenBlock.Number n → ⊥) → Goes w (counting w slot k x)
+pub counting_goes : {w : World} (slot k x : ℕ) → Run w → slot ≤ w.state.queue → k ≤ w.state.columns → x < 2 ^ 32 → ((c : ℕ) → c + 1 ≡ k → (x ≤ w.state.lists) × (is_views w.state c ≡ false → x ≡ 0)) → ((c : ℕ) (n : BufferNumber) → c + 1 ≡ k → is_views w.state c ≡ true → (column_of w.state c).block ≡ Some n → ⊥) → Goes w (counting w slot k x)
 unfolding counting
 counting_goes {w} slot k x r h l f new shut =
     goes_both (counting_firm slot k x (run_firm r) h l f new)

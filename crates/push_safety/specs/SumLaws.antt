@@ -4,7 +4,7 @@ use Rattle.std.specs.Prelude.{◌≡◌}
 use Rattle.std.proofs.Math.Path.{refl}
 use Rattle.std.proofs.Common.{◌∙◌, ap, ltb-false}
 use Rattle.std.proofs.Math.Bool.{Bool}
-use Rattle.std.proofs.Math.Option.{Option, none, some}
+use Rattle.std.specs.Prelude.{Option, None, Some}
 use native.Mathlib.Omega.{arith}
 use Rattle.std.proofs.Math.Dec.{ltb}
 use Rattle.search.specs.Cases.{by_cond}
@@ -63,8 +63,8 @@ module _ (w : World) (b : Batch) (c : ℕ) where
   walked_most from n rest = go (first (λ i. ltb (rest - long_before w b c from i) (row_view w b c (from + i)).length) n) refl
     where
       go : (o : Option ℕ) → first (λ i. ltb (rest - long_before w b c from i) (row_view w b c (from + i)).length) n ≡ o → or_all n o ≤ n
-      go none e = omega arith
-      go (some i) e = omega (arith, (at-says (λ i. ltb (rest - long_before w b c from i) (row_view w b c (from + i)).length) n i e).below)
+      go None e = omega arith
+      go (Some i) e = omega (arith, (at-says (λ i. ltb (rest - long_before w b c from i) (row_view w b c (from + i)).length) n i e).below)
 
   -- each view that the walk takes fits what is left
   walked-fits : (from n rest k : ℕ) → k < walked w b c from n rest → (row_view w b c (from + k)).length ≤ rest - long_before w b c from k
@@ -75,8 +75,8 @@ module _ (w : World) (b : Batch) (c : ℕ) where
       test i = ltb (rest - long_before w b c from i) (row_view w b c (from + i)).length
 
       go : (o : Option ℕ) → first test n ≡ o → k < or_all n o → (row_view w b c (from + k)).length ≤ rest - long_before w b c from k
-      go none e h = ltb-false _ _ (nothing-says test n e k h)
-      go (some i) e h = ltb-false _ _ ((at-says test n i e).others k h)
+      go None e h = ltb-false _ _ (nothing-says test n e k h)
+      go (Some i) e h = ltb-false _ _ ((at-says test n i e).others k h)
 
   long_most : (v : View) → long_length v ≤ v.length
   unfolding long_length

@@ -9,13 +9,13 @@ use Rattle.pool.specs.Read.{in_range}
 use Rattle.pool.specs.ReadLaws.{range_says}
 use Rattle.counts.specs.declared.BufferNumber.{BufferNumber}
 use Rattle.state.specs.declared.BatchCoalescer.{BatchCoalescer}
-use Rattle.state.specs.declared.OpenBlock.{OpenBlock}
 use Rattle.state.specs.World.{World, column_of}
 use Rattle.state.specs.Layout.{is_views, slots_length, books_length, list_length, rows_in}
 use Rattle.kinds.specs.Kind.{width_at}
 use Rattle.rules.specs.Ranges.{is_kind, between, in_bounds, fits_set_up, has_open, block_in_range, column_in_range, list_in_range, slot_in_range, state_in_range, tested}
 use Rattle.rules.specs.TestLaws.{TestedCase, not_set_up, out_of_range, passed, tested-case, range_counted}
 use Rattle.push_safety.specs.Run.{Run}
+use Rattle.std.specs.Prelude.{Option, Some}
 
 -- ---- the bounds of set-up as facts
 
@@ -128,7 +128,7 @@ not-true : (b : Bool) → not b ≡ true → b ≡ false
 not-true false e = refl
 not-true true e = absurd (true≢false (sym e))
 
-block_say : (w : World) (c : ℕ) (o : OpenBlock) (k : BufferNumber) → block_in_range w.state w.books (list_length w w.state.place c) c o ≡ true → o ≡ OpenBlock.Number k → BlockRanged w c k.0
+block_say : (w : World) (c : ℕ) (o : Option BufferNumber) (k : BufferNumber) → block_in_range w.state w.books (list_length w w.state.place c) c o ≡ true → o ≡ Some k → BlockRanged w c k.0
 block_say w c o k e q =
     let a = (and-eq-true_iff (ltb k.0 w.state.numbers) _).0 (rw q at e) in
     let b = (and-eq-true_iff (not (is_free_at w.books k.0)) _).0 a.1 in
@@ -185,7 +185,7 @@ tested-run w e bytes = go (tested-case w)
     go (passed p q z) = by_range p q
 
 -- and each open block is in its range
-pub tested_block : (w : World) → tested w ≡ 0 → (c k : ℕ) → c < w.state.columns → is_views w.state c ≡ true → (column_of w.state c).block ≡ OpenBlock.Number (record { 0 = k }) → BlockRanged w c k
+pub tested_block : (w : World) → tested w ≡ 0 → (c k : ℕ) → c < w.state.columns → is_views w.state c ≡ true → (column_of w.state c).block ≡ Some (record { 0 = k }) → BlockRanged w c k
 tested_block w e c k h v o = go (tested-case w)
   where
     go : TestedCase w → BlockRanged w c k

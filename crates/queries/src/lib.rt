@@ -7,17 +7,17 @@ ghost use Rattle.rules.specs.Steps.{with_limit};
 ghost use Rattle.rules.specs.Calls.{limit_of, buffered_count, has_completed, is_empty};
 
 use counts::{ByteCount, RowCount};
-use state::{BatchCoalescer, Limit};
+use state::BatchCoalescer;
 
 // biggest_coalesce_batch_size, and its setter.
-pub fn biggest_coalesce_batch_size(s: BatchCoalescer) -> Limit
+pub fn biggest_coalesce_batch_size(s: BatchCoalescer) -> Option<RowCount>
     ensures { result ≡ limit_of s }
 {
     let limit = s.limit;
     limit
 }
 
-pub fn set_biggest_coalesce_batch_size(s: BatchCoalescer, limit: Limit) -> BatchCoalescer
+pub fn set_biggest_coalesce_batch_size(s: BatchCoalescer, limit: Option<RowCount>) -> BatchCoalescer
     ensures { result ≡ with_limit s limit }
 {
     let column = s.column;

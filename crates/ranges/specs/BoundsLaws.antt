@@ -5,7 +5,6 @@ use Rattle.std.proofs.Common.{sym, ◌∙◌, arith}
 use Rattle.std.proofs.Math.Bool.{true, false, and-eq-true_iff}
 use borrow.Author.Tests.{leb-true, le-leb, lt-leb, eqb-true, eq-eqb, ne_eqb}
 use Rattle.search.specs.Every.{every, All, all_none, all_more, all_fails, all_done}
-use Rattle.kinds.specs.declared.Width.{Width}
 use Rattle.kinds.specs.Kind.{width_at}
 use Rattle.state.specs.declared.BatchCoalescer.{BatchCoalescer}
 use Rattle.state.specs.World.{column_of, no_column}
@@ -13,6 +12,7 @@ use Rattle.state.specs.Layout.{slots_length, books_length}
 use Rattle.layout.specs.Few.{Few}
 use Rattle.rules.specs.Ranges.{is_kind, between, in_bounds}
 use Rattle.ranges.specs.Tested.{kinds_known, fits_lengths, Sized}
+use Rattle.std.specs.Prelude.{Option, Some, None}
 
 -- between
 pub between_low : (lo x hi : ℕ) → lo ≤ x → leb x hi ≡ between lo x hi
@@ -38,14 +38,14 @@ module _ (s : BatchCoalescer) where
   pub known-none : All (known s) 0
   known-none = all_none (known s)
 
-  known_is : (c : ℕ) {w : Width} → w ≡ width_at (get_or s.column c no_column).kind → known s c ≡ is_kind w
+  known_is : (c : ℕ) {w : Option ℕ} → w ≡ width_at (get_or s.column c no_column).kind → known s c ≡ is_kind w
   unfolding known column_of
   known_is c q = ap is_kind (sym q)
 
-  pub known_more : (c : ℕ) {n : ℕ} {w : Width} → All (known s) c → w ≡ width_at (get_or s.column c no_column).kind → w ≡ Width.Bytes n → All (known s) (c + 1)
+  pub known_more : (c : ℕ) {n : ℕ} {w : Option ℕ} → All (known s) c → w ≡ width_at (get_or s.column c no_column).kind → w ≡ Some n → All (known s) (c + 1)
   known_more c a q r = all_more a (known_is c q ∙ ap is_kind r)
 
-  pub known_fails : (c : ℕ) {w : Width} → c < s.columns → w ≡ width_at (get_or s.column c no_column).kind → w ≡ Width.NoKind → false ≡ kinds_known s
+  pub known_fails : (c : ℕ) {w : Option ℕ} → c < s.columns → w ≡ width_at (get_or s.column c no_column).kind → w ≡ None → false ≡ kinds_known s
   unfolding kinds_known known
   known_fails c l q r = all_fails (known s) s.columns c l (known_is c q ∙ ap is_kind r)
 

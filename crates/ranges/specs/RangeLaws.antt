@@ -17,12 +17,12 @@ use Rattle.pool.specs.Read.{in_range}
 use Rattle.counts.specs.declared.BufferNumber.{BufferNumber}
 use Rattle.state.specs.declared.BatchCoalescer.{BatchCoalescer}
 use Rattle.state.specs.declared.Column.{Column}
-use Rattle.state.specs.declared.OpenBlock.{OpenBlock}
 use Rattle.state.specs.World.{world, no_column, column_of}
 use Rattle.state.specs.Layout.{is_views, list_place, slots_length, books_length, tally, rows_in, list_length}
 use Rattle.layout.specs.PlaceLaws.{list_room}
 use Rattle.rules.specs.Ranges.{between, is_block, has_open, block_in_range, column_in_range, list_in_range, slot_in_range, state_in_range, tested}
 use Rattle.ranges.specs.Tested.{fits_lengths, opens_in, not_open, below}
+use Rattle.std.specs.Prelude.{Option, Some, None}
 
 -- the entries lie in the books, and the word before them
 module _ (s : BatchCoalescer) {L : ℕ} (e : L ≡ books_length s) where
@@ -52,7 +52,7 @@ module _ (books : List ℕ) {k u : ℕ} (p : u ≡ word32 books 0) where
     use_live x = rw (← p, lt-ltb k u h, ← q, ← t, x)
 
 -- has_open
-module _ (column : Column) (k : ℕ) {b : OpenBlock} (p : b ≡ column.block) where
+module _ (column : Column) (k : ℕ) {b : Option BufferNumber} (p : b ≡ column.block) where
   none : (v : Bool) → false ≡ (v && false)
   none false = refl
   none true = refl
@@ -61,11 +61,11 @@ module _ (column : Column) (k : ℕ) {b : OpenBlock} (p : b ≡ column.block) wh
   all false = refl
   all true = refl
 
-  pub opens-closed : b ≡ OpenBlock.Closed → false ≡ opens_in column k
+  pub opens-closed : b ≡ None → false ≡ opens_in column k
   unfolding opens_in
   opens-closed e = rw (← p, e) (none (is_view column.kind))
 
-  module _ {j : BufferNumber} (e : b ≡ OpenBlock.Number j) where
+  module _ {j : BufferNumber} (e : b ≡ Some j) where
     pub opens_other : (j.0 ≡ k → ⊥) → false ≡ opens_in column k
     unfolding opens_in
     opens_other n = rw (← p, e, ne_eqb j.0 k n) (none (is_view column.kind))
@@ -95,11 +95,11 @@ module _ (s : BatchCoalescer) (k : ℕ) where
   before-done c d a h = all_done c a h
 
 -- block_in_range
-module _ (s : BatchCoalescer) (books : List ℕ) (list c : ℕ) {b : OpenBlock} where
-  pub block_closed : b ≡ OpenBlock.Closed → true ≡ block_in_range s books list c b
+module _ (s : BatchCoalescer) (books : List ℕ) (list c : ℕ) {b : Option BufferNumber} where
+  pub block_closed : b ≡ None → true ≡ block_in_range s books list c b
   block_closed e = rw e
 
-  module _ {k : BufferNumber} (e : b ≡ OpenBlock.Number k) where
+  module _ {k : BufferNumber} (e : b ≡ Some k) where
     pub block_past : s.numbers ≤ k.0 → false ≡ block_in_range s books list c b
     block_past h = rw (e, le-ltb k.0 s.numbers h)
 
@@ -118,7 +118,7 @@ module _ (s : BatchCoalescer) (books : List ℕ) (c : ℕ) {k : Column} {v : Boo
     unfolding column_in_range is_views
     column-size y = rw (← q, ← p, x, ← r, y)
 
-    pub column-last : {l : ℕ} {o : OpenBlock} {b : Bool} → a ≡ true → l ≡ list_length (world s [] [] books) s.place c → o ≡ k.block → b ≡ block_in_range s books l c o → b ≡ column_in_range (world s [] [] books) c
+    pub column-last : {l : ℕ} {o : Option BufferNumber} {b : Bool} → a ≡ true → l ≡ list_length (world s [] [] books) s.place c → o ≡ k.block → b ≡ block_in_range s books l c o → b ≡ column_in_range (world s [] [] books) c
     unfolding column_in_range is_views
     column-last y i h j = rw (← q, ← p, x, ← r, y, ← h, ← i) j
 

@@ -11,8 +11,7 @@ ghost use Rattle.rules.specs.Ranges.{in_bounds, block_in_range, column_in_range,
 ghost use Rattle.ranges.specs.Tested.{kinds_known, fits_lengths, opens_in, not_open, below, Sized};
 
 use counts::{BufferNumber, ByteSum};
-use kinds::Width;
-use state::{BatchCoalescer, Column, OpenBlock};
+use state::{BatchCoalescer, Column};
 
 // Whether every column is of a kind in the table.
 fn kinds_known(s: BatchCoalescer) -> bool
@@ -24,7 +23,7 @@ fn kinds_known(s: BatchCoalescer) -> bool
         let at = c as usize;
         let column = s.column[at];
         let width = kinds::width_of(column.kind);
-        let Width::Bytes(_) = width else {
+        let Some(_) = width else {
             return false;
         };
         c += 1;
@@ -85,8 +84,8 @@ fn has_open(column: Column, k: BufferNumber) -> bool
 {
     let block = column.block;
     match block {
-        OpenBlock::Closed => false,
-        OpenBlock::Number(j) => {
+        None => false,
+        Some(j) => {
             if j.0 == k.0 {
                 kinds::is_view(column.kind)
             } else {
@@ -114,13 +113,13 @@ fn none_before(s: BatchCoalescer, c: u32, k: BufferNumber) -> bool
 }
 
 // 14, an open block of column c: its number is below N and in use, its list has a place for it, and no column before has it open.
-fn block_in_range(s: BatchCoalescer, books: &[u8], list: u32, c: u32, block: OpenBlock) -> bool
+fn block_in_range(s: BatchCoalescer, books: &[u8], list: u32, c: u32, block: Option<BufferNumber>) -> bool
     requires { (c ≤ 16) × (length books.now ≡ books_length s) }
     ensures { result ≡ block_in_range s books.now list c block }
 {
     match block {
-        OpenBlock::Closed => true,
-        OpenBlock::Number(k) => {
+        None => true,
+        Some(k) => {
             if k.0 < s.numbers {
                 in_use(books, k) & ((list < s.lists) & none_before(s, c, k))
             } else {

@@ -14,16 +14,17 @@ use Rattle.listings.specs.Listing.{no_entry, taken, with_used}
 use Rattle.listings.specs.ListingLaws.{used_with_used}
 use Rattle.sound.specs.Change.{Roomy, Changed}
 use Rattle.sound.specs.OpLaws.{changed-none, used_lt, used_entry, used_changed, no_fits, entry-changed, taken-changed, used_taken}
-use Rattle.room.specs.declared.Chosen.{Chosen}
 use Rattle.room.specs.Room.{block_room, taken_for, opened_as, opened, tried}
 use Rattle.room.specs.Trial.{is_trial, wiped_of, wiped, untried}
 use Rattle.room.specs.Back.{Unmarked, Same-or-marked, same, marked, Tried, cleared, Wiped}
 use Rattle.room.specs.SameBooks.{books_ext}
+use Rattle.std.specs.Prelude.{Result, Ok, Err}
+use Rattle.room.specs.declared.Room.{Room}
 
 -- a trial answers as the opening does
-answer_of : (s : List ℕ) (capacity hold listings : ℕ) (c : Chosen) → (taken_for s capacity hold listings c).answer ≡ c
-answer_of s capacity hold listings (Chosen.Refused number) = refl
-answer_of s capacity hold listings (Chosen.At r) = refl
+answer_of : (s : List ℕ) (capacity hold listings : ℕ) (c : Result Room ℕ) → (taken_for s capacity hold listings c).answer ≡ c
+answer_of s capacity hold listings (Err number) = refl
+answer_of s capacity hold listings (Ok r) = refl
 
 pub tried-answer : (s : List ℕ) (n pool c : ℕ) → (tried s n pool c).answer ≡ block_room s n pool c
 unfolding tried opened_as

@@ -1,27 +1,26 @@
 -- The number and the start that a buffer gets, and what opening it makes of the books.
 use Rattle.std.specs.Prelude.{ℕ, ◌≡◌, Bool, ◌&&◌, cond, List, eqb}
 use Rattle.books.specs.declared.Entry.{Entry}
-use Rattle.books.specs.declared.Found.{Found}
-use Rattle.books.specs.declared.Gap.{Gap}
 use Rattle.books.specs.Entry.{entry_of, is_free}
 use Rattle.books.specs.Search.{lowest_free, lowest_gap}
 use Rattle.listings.specs.Listing.{taken}
 use Rattle.room.specs.declared.Room.{Room}
-use Rattle.room.specs.declared.Chosen.{Chosen}
+use Rattle.std.specs.Prelude.{Option, Some, None, Result, Ok, Err}
+use Rattle.counts.specs.declared.BufferNumber.{BufferNumber}
 
 -- the number of a refusal, and 0 where there is none
-abbrev pub refusal_of : Chosen → ℕ
-refusal_of (Chosen.At r) = 0
-refusal_of (Chosen.Refused number) = number
+abbrev pub refusal_of : Result Room ℕ → ℕ
+refusal_of (Ok r) = 0
+refusal_of (Err number) = number
 
 -- 01: "11 no free buffer number", then "12 no gap of the capacity wanted"
-abbrev pub or_refused : Found → Gap → Chosen
-or_refused Found.Nothing g = Chosen.Refused 11
-or_refused (Found.At k) Gap.Nothing = Chosen.Refused 12
-or_refused (Found.At k) (Gap.Start at) = Chosen.At (record { number = k; start = at })
+abbrev pub or_refused : Option BufferNumber → Option ℕ → Result Room ℕ
+or_refused None g = Err 11
+or_refused (Some k) None = Err 12
+or_refused (Some k) (Some at) = Ok (record { number = k; start = at })
 
 -- the lowest free number and the lowest start. 01: "gets the lowest free number", "at the lowest start"
-unfoldable pub chosen : List ℕ → ℕ → ℕ → ℕ → Chosen
+unfoldable pub chosen : List ℕ → ℕ → ℕ → ℕ → Result Room ℕ
 chosen s n pool capacity = or_refused (lowest_free s n) (lowest_gap s pool capacity)
 
 -- an entry of zeros. 01: "it is free, its entry in the books is zero"
@@ -29,11 +28,11 @@ unfoldable pub is_zero : Entry → Bool
 is_zero e = eqb e.start 0 && (eqb e.capacity.0 0 && (eqb e.length.0 0 && is_free e))
 
 -- the room for a block: the same; and 14 where the free number's entry is not zero, which no history leaves (DECISIONS 11)
-abbrev pub if_zero : List ℕ → Chosen → Chosen
-if_zero s (Chosen.Refused number) = Chosen.Refused number
-if_zero s (Chosen.At r) = cond (is_zero (entry_of s r.number.0)) (Chosen.At r) (Chosen.Refused 14)
+abbrev pub if_zero : List ℕ → Result Room ℕ → Result Room ℕ
+if_zero s (Err number) = Err number
+if_zero s (Ok r) = cond (is_zero (entry_of s r.number.0)) (Ok r) (Err 14)
 
-unfoldable pub block_room : List ℕ → ℕ → ℕ → ℕ → Chosen
+unfoldable pub block_room : List ℕ → ℕ → ℕ → ℕ → Result Room ℕ
 block_room s n pool capacity = if_zero s (chosen s n pool capacity)
 
 -- an entry at a start, with its length, hold and listings
@@ -49,14 +48,14 @@ entry_at start capacity length hold listings =
 
 -- an answer, and the books that go with it
 pub record Outcome : Type 0 where
-  pub answer : Chosen
+  pub answer : Result Room ℕ
   pub books : List ℕ
 
 -- the room taken for an empty buffer; a refusal changes nothing
-abbrev pub taken_for : List ℕ → ℕ → ℕ → ℕ → Chosen → Outcome
-taken_for s capacity hold listings (Chosen.Refused number) = record { answer = Chosen.Refused number; books = s }
-taken_for s capacity hold listings (Chosen.At r) =
-    record { answer = Chosen.At r; books = taken s r.number.0 (entry_at r.start capacity 0 hold listings) }
+abbrev pub taken_for : List ℕ → ℕ → ℕ → ℕ → Result Room ℕ → Outcome
+taken_for s capacity hold listings (Err number) = record { answer = Err number; books = s }
+taken_for s capacity hold listings (Ok r) =
+    record { answer = Ok r; books = taken s r.number.0 (entry_at r.start capacity 0 hold listings) }
 
 unfoldable pub opened_as : List ℕ → ℕ → ℕ → ℕ → ℕ → ℕ → Outcome
 opened_as s n pool capacity hold listings = taken_for s capacity hold listings (block_room s n pool capacity)
@@ -70,6 +69,6 @@ unfoldable pub tried : List ℕ → ℕ → ℕ → ℕ → Outcome
 tried s n pool capacity = opened_as s n pool capacity 2 0
 
 -- the contract: the answer r and the books s' are the outcome's
-pub record Opens (o : Outcome) (s' : List ℕ) (r : Chosen) : Type 0 where
+pub record Opens (o : Outcome) (s' : List ℕ) (r : Result Room ℕ) : Type 0 where
   pub answer_is : r ≡ o.answer
   pub books_are : s' ≡ o.books

@@ -11,9 +11,3 @@ pub struct Room {
     pub start: u32,
 }
 
-// What looking for room answers: the room, or the number of the refusal.
-#[derive(Clone, Copy)]
-pub enum Chosen {
-    At(Room),
-    Refused(u32),
-}

@@ -4,7 +4,6 @@ use Rattle.std.proofs.Common.{sym, ap, arith}
 use borrow.Author.Tests.{eq-eqb, ne_eqb, eqb-true, eqb-false}
 use Rattle.counts.specs.declared.RowCount.{RowCount}
 use Rattle.state.specs.declared.BatchCoalescer.{BatchCoalescer}
-use Rattle.state.specs.declared.Limit.{Limit}
 use Rattle.state.specs.World.{World}
 use Rattle.rules.specs.Batch.{Batch}
 use Rattle.rules.specs.Steps.{bind}
@@ -13,14 +12,15 @@ use Rattle.rules.specs.Turns.{coalesced}
 use Rattle.rules.proofs.StepLaws.{stepped_small, stepped-whole, stepped_finishes, stepped_on}
 use Rattle.routes.specs.declared.Route.{Route}
 use Rattle.routes.specs.Route.{route_of}
+use Rattle.std.specs.Prelude.{Option, Some, None}
 
 -- ---- is_over
 
-pub over_some : {limit : Limit} {most : RowCount} (rows : ℕ) → limit ≡ Limit.Rows most → ltb most.0 rows ≡ over_limit limit rows
-over_some rows e = ap (λ (l : Limit). over_limit l rows) (sym e)
+pub over_some : {limit : Option RowCount} {most : RowCount} (rows : ℕ) → limit ≡ Some most → ltb most.0 rows ≡ over_limit limit rows
+over_some rows e = ap (λ (l : Option RowCount). over_limit l rows) (sym e)
 
-pub over_none : {limit : Limit} (rows : ℕ) → limit ≡ Limit.Unset → false ≡ over_limit limit rows
-over_none rows e = ap (λ (l : Limit). over_limit l rows) (sym e)
+pub over_none : {limit : Option RowCount} (rows : ℕ) → limit ≡ None → false ≡ over_limit limit rows
+over_none rows e = ap (λ (l : Option RowCount). over_limit l rows) (sym e)
 
 -- ---- route_of
 

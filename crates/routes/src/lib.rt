@@ -13,7 +13,7 @@ ghost use Rattle.routes.specs.Route.{route_of};
 use byte_view::Source;
 use counts::{ByteSum, RowCount};
 use rules::Way;
-use state::{BatchCoalescer, Limit};
+use state::BatchCoalescer;
 
 // What is decided of each column of a batch.
 #[derive(Clone, Copy)]
@@ -63,12 +63,12 @@ pub enum Route {
     FinishFirst,
 }
 
-fn is_over(limit: Limit, rows: RowCount) -> bool
+fn is_over(limit: Option<RowCount>, rows: RowCount) -> bool
     ensures { result ≡ over_limit limit rows.0 }
 {
     match limit {
-        Limit::Rows(most) => most.0 < rows.0,
-        Limit::Unset => false,
+        Some(most) => most.0 < rows.0,
+        None => false,
     }
 }
 

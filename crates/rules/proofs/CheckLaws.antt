@@ -3,7 +3,7 @@ use Rattle.std.specs.Prelude.{ℕ, ◌*◌, ◌≤◌, ◌<◌, ◌≡◌, ◌�
 use Rattle.std.proofs.Math.Path.{refl}
 use Rattle.std.proofs.Common.{sym, ◌∙◌, ap, subst, true≢false, arith}
 use Rattle.std.proofs.Math.Bool.{true, false, not}
-use Rattle.std.proofs.Math.Option.{Option, none, some}
+use Rattle.std.specs.Prelude.{Option, None, Some}
 use Rattle.std.proofs.Math.Decide.{dec_lt, ℕ_discrete}
 use borrow.Author.Tests.{not-true, not-false}
 use Rattle.search.specs.First.{first, Lowest}
@@ -38,8 +38,8 @@ module _ (w : World) (b : Batch) where
 
   -- what the checks of a column say, with the column that they name
   abbrev pub ColumnSays : ℕ → Option Fault → Type 0
-  ColumnSays c none = ColumnGood c
-  ColumnSays c (some f) = ColumnBad c f × (f.column ≡ c)
+  ColumnSays c None = ColumnGood c
+  ColumnSays c (Some f) = ColumnBad c f × (f.column ≡ c)
 
   pub column-says : (c : ℕ) → ColumnSays c (column_fault w b c)
   unfolding bad_row
@@ -49,19 +49,19 @@ module _ (w : World) (b : Batch) where
       go false p y q z r o e = rw (column-four w b c p) (four refl p, refl)
       go true p false q z r o e = rw (column_five w b c p q) (five refl p q, refl)
       go true p true q false r o e = rw (column_six w b c p q r) (six refl p q r, refl)
-      go true p true q true r none e =
+      go true p true q true r None e =
           let v : (i : ℕ) → i < b.rows → valid_row w b c i ≡ true = λ i l. not-false _ (nothing-says (λ i. not (valid_row w b c i)) b.rows e i l) in
           rw (column-none w b c p q r v) (record { rules = p; body = q; held = r; valid = v })
-      go true p true q true r (some i) e =
+      go true p true q true r (Some i) e =
           let m : Lowest (λ i. not (valid_row w b c i)) b.rows i = at-says (λ i. not (valid_row w b c i)) b.rows i e in
           let v : valid_row w b c i ≡ false = not-true _ m.accepted in
           let o : (j : ℕ) → j < i → valid_row w b c j ≡ true = λ j l. not-false _ (m.others j l) in
           rw (column-seven w b c i p q r m.below v o) (seven refl p q r m.below v o, refl)
 
-  pub column_good : (c : ℕ) → column_fault w b c ≡ none → ColumnGood c
+  pub column_good : (c : ℕ) → column_fault w b c ≡ None → ColumnGood c
   column_good c e = rw e at (column-says c)
 
-  pub column_bad : (c : ℕ) (f : Fault) → column_fault w b c ≡ some f → ColumnBad c f
+  pub column_bad : (c : ℕ) (f : Fault) → column_fault w b c ≡ Some f → ColumnBad c f
   column_bad c f e = (rw e at (column-says c)).0
 
   -- ---- the batch
@@ -76,37 +76,37 @@ module _ (w : World) (b : Batch) where
   pub data BatchBad (f : Fault) : Type 0 where
     two : f.number ≡ 2 → length b.records ≢ 32 * w.state.columns → BatchBad f
     three : f.number ≡ 3 → length b.records ≡ 32 * w.state.columns → w.state.rows.0 < b.rows → BatchBad f
-    in_column : length b.records ≡ 32 * w.state.columns → b.rows ≤ w.state.rows.0 → f.column < w.state.columns → ((c : ℕ) → c < f.column → column_fault w b c ≡ none) → column_fault w b f.column ≡ some f → ColumnBad f.column f → BatchBad f
+    in_column : length b.records ≡ 32 * w.state.columns → b.rows ≤ w.state.rows.0 → f.column < w.state.columns → ((c : ℕ) → c < f.column → column_fault w b c ≡ None) → column_fault w b f.column ≡ Some f → ColumnBad f.column f → BatchBad f
 
   -- what the checks of the batch say
   abbrev pub BatchSays : Option Fault → Type 0
-  BatchSays none = BatchGood
-  BatchSays (some f) = BatchBad f
+  BatchSays None = BatchGood
+  BatchSays (Some f) = BatchBad f
 
   -- no fault is none
-  no_fault : (o : Option Fault) → is_fault o ≡ false → o ≡ none
-  no_fault none e = refl
-  no_fault (some f) e = absurd (true≢false e)
+  no_fault : (o : Option Fault) → is_fault o ≡ false → o ≡ None
+  no_fault None e = refl
+  no_fault (Some f) e = absurd (true≢false e)
 
   pub batch-says : BatchSays (batch_fault w b)
   batch-says = go (ℕ_discrete (length b.records) (32 * w.state.columns)) (dec_lt w.state.rows.0 b.rows)
     where
       at : (b.rows ≤ w.state.rows.0) → length b.records ≡ 32 * w.state.columns → (c : ℕ) → Lowest (λ c. is_fault (column_fault w b c)) w.state.columns c → (o : Option Fault) → column_fault w b c ≡ o → BatchSays o
-      at p q c m none e = absurd (true≢false (sym m.accepted ∙ ap is_fault e))
-      at p q c m (some f) e =
+      at p q c m None e = absurd (true≢false (sym m.accepted ∙ ap is_fault e))
+      at p q c m (Some f) e =
           let t : f.column ≡ c = (rw e at (column-says c)).1 in
           in_column q p (rw t m.below) (λ k l. no_fault _ (m.others k (rw t at l)))
-          (subst (λ (k : ℕ). column_fault w b k ≡ some f) (sym t) e)
+          (subst (λ (k : ℕ). column_fault w b k ≡ Some f) (sym t) e)
           (subst (λ (k : ℕ). ColumnBad k f) (sym t) (column_bad c f e))
 
       columns : (b.rows ≤ w.state.rows.0) → length b.records ≡ 32 * w.state.columns → (r : Option ℕ) → first (λ c. is_fault (column_fault w b c)) w.state.columns ≡ r → BatchSays (of_column (column_fault w b) r)
-      columns p q none e =
+      columns p q None e =
           record {
             records = q;
             rows = p;
             columns = λ c l. column_good c (no_fault _ (nothing-says (λ c. is_fault (column_fault w b c)) w.state.columns e c l));
           }
-      columns p q (some c) e =
+      columns p q (Some c) e =
           at p q c (at-says (λ c. is_fault (column_fault w b c)) w.state.columns c e) (column_fault w b c) refl
 
       go : Dec (length b.records ≡ 32 * w.state.columns) → Dec (w.state.rows.0 < b.rows) → BatchSays (batch_fault w b)
@@ -116,14 +116,14 @@ module _ (w : World) (b : Batch) where
           let p : b.rows ≤ w.state.rows.0 = omega arith in
           rw (columns_left w b q p) (columns p q (first (λ c. is_fault (column_fault w b c)) w.state.columns) refl)
 
-  pub batch_good : batch_fault w b ≡ none → BatchGood
+  pub batch_good : batch_fault w b ≡ None → BatchGood
   batch_good e = rw e at batch-says
 
-  pub batch_bad : (f : Fault) → batch_fault w b ≡ some f → BatchBad f
+  pub batch_bad : (f : Fault) → batch_fault w b ≡ Some f → BatchBad f
   batch_bad f e = rw e at batch-says
 
   -- a fault has one of these numbers
-  pub fault-number : (f : Fault) → batch_fault w b ≡ some f → Among check_numbers f.number
+  pub fault-number : (f : Fault) → batch_fault w b ≡ Some f → Among check_numbers f.number
   fault-number f e = go (batch_bad f e)
     where
       is : (n : ℕ) → Among check_numbers n → f.number ≡ n → Among check_numbers f.number

@@ -3,11 +3,8 @@ use Rattle.std.specs.Prelude.{ℕ, ◌+◌, ◌≡◌, refl, cond, List, [], ◌
 use Rattle.std.proofs.Common.{sym, ◌∙◌, arith}
 use Rattle.search.specs.Cases.{by_cond}
 use Rattle.blocks.specs.Block.{asked}
-use Rattle.books.specs.declared.Found.{Found}
-use Rattle.books.specs.declared.Gap.{Gap}
 use Rattle.books.specs.Search.{lowest_free, lowest_gap}
 use Rattle.listings.specs.Listing.{listed_one}
-use Rattle.room.specs.declared.Chosen.{Chosen}
 use Rattle.room.specs.Room.{or_refused, chosen, block_room, opened}
 use Rattle.room.specs.RoomLaws.{block_refusal}
 use Rattle.words.specs.WordLaws.{length-with_word32}
@@ -17,7 +14,6 @@ use Rattle.pool.specs.CarryLaws.{length-carried}
 use Rattle.room.proofs.BackLaws.{opened-answer}
 use Rattle.tallies.specs.TallyLaws.{length-with_tally}
 use Rattle.views.specs.View.{is_inline}
-use Rattle.state.specs.declared.OpenBlock.{OpenBlock}
 use Rattle.state.specs.World.{World, column_of}
 use Rattle.state.specs.Layout.{tally, is_views, list_length}
 use Rattle.rules.specs.declared.Way.{Way}
@@ -29,6 +25,9 @@ use Rattle.rules.specs.CopyLaws.{length-views_put, length-bytes_carried}
 use Rattle.rules.specs.Held.{Among, one_of, among-more, Holds, held, refused, holds_more, holds_bind, holds_cond, holds_each, holds_among}
 use Rattle.rules.specs.SizeLaws.{length-with_length, length-listed_one, length-over_list, length-opened}
 use Rattle.rules.specs.Stays.{same-column, Beside, beside_refl, beside_trans, each_beside, beside_state}
+use Rattle.std.specs.Prelude.{Option, Some, None, Result, Ok, Err}
+use Rattle.counts.specs.declared.BufferNumber.{BufferNumber}
+use Rattle.room.specs.declared.Room.{Room}
 
 -- a count, and a number at the end of a list
 pub counting_beside : (w : World) (slot k v : ℕ) → Beside w (counting w slot k v)
@@ -55,7 +54,7 @@ closed_beside w c =
     by_cond (Beside w) (is_open w c)
     (λ h.
     record {
-      set_up = same-column w.state c (column_of w.state c).source OpenBlock.Closed;
+      set_up = same-column w.state c (column_of w.state c).source None;
       place = refl;
       queued = refl;
       buffered = refl;
@@ -66,28 +65,28 @@ closed_beside w c =
     (λ h. beside_refl w)
 
 -- a room chosen
-chosen-number : (f : Found) (g : Gap) (n : ℕ) → or_refused f g ≡ Chosen.Refused n → Among (11 ∷ 12 ∷ []) n
-chosen-number Found.Nothing g n e = let q : 11 ≡ n = cc in rw (← q) (one_of (11 ∷ 12 ∷ []) 11 tt)
-chosen-number (Found.At k) Gap.Nothing n e = let q : 12 ≡ n = cc in rw (← q) (one_of (11 ∷ 12 ∷ []) 12 tt)
-chosen-number (Found.At k) (Gap.Start at) n e = let z : ◌≡◌ {A = ℕ} 0 1 = cc in absurd (omega arith)
+chosen-number : (f : Option BufferNumber) (g : Option ℕ) (n : ℕ) → or_refused f g ≡ Err n → Among (11 ∷ 12 ∷ []) n
+chosen-number None g n e = let q : 11 ≡ n = cc in rw (← q) (one_of (11 ∷ 12 ∷ []) 11 tt)
+chosen-number (Some k) None n e = let q : 12 ≡ n = cc in rw (← q) (one_of (11 ∷ 12 ∷ []) 12 tt)
+chosen-number (Some k) (Some at) n e = let z : ◌≡◌ {A = ℕ} 0 1 = cc in absurd (omega arith)
 
-pub chosen-among : (s : List ℕ) (m pool capacity n : ℕ) → chosen s m pool capacity ≡ Chosen.Refused n → Among (11 ∷ 12 ∷ []) n
+pub chosen-among : (s : List ℕ) (m pool capacity n : ℕ) → chosen s m pool capacity ≡ Err n → Among (11 ∷ 12 ∷ []) n
 unfolding chosen
 chosen-among s m pool capacity n e = chosen-number (lowest_free s m) (lowest_gap s pool capacity) n e
 
 -- a block opened: those, and 14
-pub block_among : (s : List ℕ) (m pool capacity n : ℕ) → block_room s m pool capacity ≡ Chosen.Refused n → Among (11 ∷ 12 ∷ 14 ∷ []) n
+pub block_among : (s : List ℕ) (m pool capacity n : ℕ) → block_room s m pool capacity ≡ Err n → Among (11 ∷ 12 ∷ 14 ∷ []) n
 block_among s m pool capacity n e =
     block_refusal s m pool capacity {P = Among (11 ∷ 12 ∷ 14 ∷ [])} n e
     (λ k q. among-more (11 ∷ 12 ∷ 14 ∷ []) tt (chosen-among s m pool capacity k q))
     (one_of (11 ∷ 12 ∷ 14 ∷ []) 14 tt)
 
-by_answer_lem : (w : World) (c min : ℕ) (a : Chosen) (s : List ℕ) → ((n : ℕ) → a ≡ Chosen.Refused n → Among (11 ∷ 12 ∷ 14 ∷ []) n) → length s ≡ length w.books → Holds (Beside w) (Among (11 ∷ 12 ∷ 14 ∷ [])) (opening w c min (record { answer = a; books = s }))
-by_answer_lem w c min (Chosen.Refused n) s f l = refused (f n refl)
-by_answer_lem w c min (Chosen.At r) s f l =
+by_answer_lem : (w : World) (c min : ℕ) (a : Result Room ℕ) (s : List ℕ) → ((n : ℕ) → a ≡ Err n → Among (11 ∷ 12 ∷ 14 ∷ []) n) → length s ≡ length w.books → Holds (Beside w) (Among (11 ∷ 12 ∷ 14 ∷ [])) (opening w c min (record { answer = a; books = s }))
+by_answer_lem w c min (Err n) s f l = refused (f n refl)
+by_answer_lem w c min (Ok r) s f l =
     held
     (record {
-      set_up = same-column w.state c (asked (column_of w.state c).source (record { 0 = min })).source (OpenBlock.Number r.number);
+      set_up = same-column w.state c (asked (column_of w.state c).source (record { 0 = min })).source (Some r.number);
       place = refl;
       queued = refl;
       buffered = refl;

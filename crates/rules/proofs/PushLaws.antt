@@ -4,7 +4,7 @@ use Rattle.std.specs.Prelude.{◌≡◌, ◌≢◌, Bool, cond, List, [], ◌∷
 use Rattle.std.proofs.Math.Path.{refl}
 use Rattle.std.proofs.Common.{sym, ◌∙◌, ap, arith}
 use Rattle.std.proofs.Math.Bool.{true, false}
-use Rattle.std.proofs.Math.Option.{Option, none, some}
+use Rattle.std.specs.Prelude.{Option, None, Some}
 use Rattle.std.proofs.Math.Dec.{ltb}
 use borrow.Author.Tests.{ltb-true, ltb-false, leb-false, eqb-true, eqb-false, lt-ltb, le-ltb, eq-eqb, ne_eqb}
 use Rattle.search.specs.Cases.{by_cond}
@@ -33,8 +33,8 @@ pub data PushCase (w : World) (b : Batch) : Type 0 where
   not_set_up : fits_set_up w ≡ false → pushed w b ≡ refuse 1 → PushCase w b
   out_of_range : fits_set_up w ≡ true → state_in_range w ≡ false → pushed w b ≡ refuse 14 → PushCase w b
   nothing : fits_set_up w ≡ true → state_in_range w ≡ true → b.rows ≡ 0 → pushed w b ≡ ok w → PushCase w b
-  faulty : fits_set_up w ≡ true → state_in_range w ≡ true → b.rows ≢ 0 → (f : Fault) → batch_fault w b ≡ some f → pushed w b ≡ refuse f.number → PushCase w b
-  steps : fits_set_up w ≡ true → state_in_range w ≡ true → b.rows ≢ 0 → batch_fault w b ≡ none → pushed w b ≡ stepped w b → PushCase w b
+  faulty : fits_set_up w ≡ true → state_in_range w ≡ true → b.rows ≢ 0 → (f : Fault) → batch_fault w b ≡ Some f → pushed w b ≡ refuse f.number → PushCase w b
+  steps : fits_set_up w ≡ true → state_in_range w ≡ true → b.rows ≢ 0 → batch_fault w b ≡ None → pushed w b ≡ stepped w b → PushCase w b
 
 pub push_case : (w : World) (b : Batch) → PushCase w b
 unfolding pushed
@@ -44,8 +44,8 @@ push_case w b = go (tested-case w) (eqb b.rows 0) refl (batch_fault w b) refl
     go (TestedCase.not_set_up p e) z r o s = not_set_up p (rw (ne_eqb (tested w) 0 (omega arith), pushed) (ap refuse e))
     go (TestedCase.out_of_range p q e) z r o s = out_of_range p q (rw (ne_eqb (tested w) 0 (omega arith), pushed) (ap refuse e))
     go (TestedCase.passed p q e) true r o s = nothing p q (eqb-true _ _ r) (rw (eq-eqb (tested w) 0 e, r, pushed))
-    go (TestedCase.passed p q e) false r (some f) s = faulty p q (eqb-false _ _ r) f s (rw (eq-eqb (tested w) 0 e, r, s, pushed))
-    go (TestedCase.passed p q e) false r none s = steps p q (eqb-false _ _ r) s (rw (eq-eqb (tested w) 0 e, r, s, pushed))
+    go (TestedCase.passed p q e) false r (Some f) s = faulty p q (eqb-false _ _ r) f s (rw (eq-eqb (tested w) 0 e, r, s, pushed))
+    go (TestedCase.passed p q e) false r None s = steps p q (eqb-false _ _ r) s (rw (eq-eqb (tested w) 0 e, r, s, pushed))
 
 -- which way it is: one push goes one way
 pub kind_of : {w : World} {b : Batch} → PushCase w b → ℕ

@@ -6,9 +6,7 @@ use Rattle.std.proofs.Math.Bool.{true, false}
 use Rattle.std.proofs.Math.Decide.{ℕ_discrete}
 use Rattle.search.specs.Cases.{by_cond}
 use Rattle.counts.specs.declared.BufferNumber.{BufferNumber}
-use Rattle.room.specs.declared.Chosen.{Chosen}
 use Rattle.room.specs.Room.{chosen}
-use Rattle.pool.specs.declared.Registered.{Registered}
 use Rattle.pool.specs.Register.{RegisterOutcome, settled_at, registered, refusal_of, is_held, let_go}
 use Rattle.state.specs.World.{World}
 use Rattle.rules.specs.Steps.{in_books}
@@ -19,13 +17,15 @@ use Rattle.rules.specs.SizeLaws.{length-registered, pool-registered, length_let_
 use Rattle.rules.specs.Stays.{Stays, stays_refl, beside_state, beside_stays}
 use Rattle.rules.proofs.PartLaws.{chosen-among}
 use Rattle.rules.specs.TestLaws.{tested-number}
+use Rattle.std.specs.Prelude.{Result, Ok, Err}
+use Rattle.room.specs.declared.Room.{Room}
 
 -- ---- register
 
 -- an outcome over books s and pool p: a number and the caller's hold, or a refusal, and nothing is changed
 data Outcomes (s p : List ℕ) (o : RegisterOutcome) : Type 0 where
-  done : (k : BufferNumber) → o.answer ≡ Registered.Number k → Outcomes s p o
-  not : (n : ℕ) → Among (11 ∷ 12 ∷ 13 ∷ []) n → o.answer ≡ Registered.Refused n → o.books ≡ s → o.pool ≡ p → Outcomes s p o
+  done : (k : BufferNumber) → o.answer ≡ Ok k → Outcomes s p o
+  not : (n : ℕ) → Among (11 ∷ 12 ∷ 13 ∷ []) n → o.answer ≡ Err n → o.books ≡ s → o.pool ≡ p → Outcomes s p o
 
 outcome : (s p : List ℕ) (n : ℕ) (bytes : List ℕ) (capacity : ℕ) → Outcomes s p (registered s p n bytes capacity)
 unfolding registered
@@ -33,13 +33,13 @@ outcome s p n bytes capacity =
     by_cond (Outcomes s p) (ltb capacity (length bytes)) (λ h. not 13 (one_of _ 13 tt) refl refl refl)
     (λ h. go (chosen s n (length p) capacity) refl)
   where
-    go : (c : Chosen) → chosen s n (length p) capacity ≡ c → Outcomes s p (settled_at s p bytes capacity c)
-    go (Chosen.Refused m) e =
+    go : (c : Result Room ℕ) → chosen s n (length p) capacity ≡ c → Outcomes s p (settled_at s p bytes capacity c)
+    go (Err m) e =
         not m (among-more (11 ∷ 12 ∷ 13 ∷ []) tt (chosen-among s n (length p) capacity m e)) refl refl refl
-    go (Chosen.At r) e = done r.number refl
+    go (Ok r) e = done r.number refl
 
 module _ (w : World) (bytes : List ℕ) (capacity : ℕ) where
-  pub register_tested : tested w ≢ 0 → register_call w bytes capacity ≡ record { answer = Registered.Refused (tested w); world = w }
+  pub register_tested : tested w ≢ 0 → register_call w bytes capacity ≡ record { answer = Err (tested w); world = w }
   unfolding register_call
   register_tested h = rw (ne_eqb (tested w) 0 h, register_call)
 
@@ -53,8 +53,8 @@ module _ (w : World) (bytes : List ℕ) (capacity : ℕ) where
 
   -- a number, or one of these refusals and the old world
   pub data RegisterCase : Type 0 where
-    number : tested w ≡ 0 → (k : BufferNumber) → (register_call w bytes capacity).answer ≡ Registered.Number k → RegisterCase
-    refusal : (n : ℕ) → Among (1 ∷ 11 ∷ 12 ∷ 13 ∷ 14 ∷ []) n → (register_call w bytes capacity).answer ≡ Registered.Refused n → (register_call w bytes capacity).world ≡ w → RegisterCase
+    number : tested w ≡ 0 → (k : BufferNumber) → (register_call w bytes capacity).answer ≡ Ok k → RegisterCase
+    refusal : (n : ℕ) → Among (1 ∷ 11 ∷ 12 ∷ 13 ∷ 14 ∷ []) n → (register_call w bytes capacity).answer ≡ Err n → (register_call w bytes capacity).world ≡ w → RegisterCase
 
   pub register_case : RegisterCase
   register_case = go (ℕ_discrete (tested w) 0)
@@ -78,10 +78,10 @@ module _ (w : World) (bytes : List ℕ) (capacity : ℕ) where
       go (number p k e) = absurd (h (ap refusal_of e))
       go (refusal n a e q) = q
 
-  pub register_zero : refusal_of (register_call w bytes capacity).answer ≡ 0 → (k : BufferNumber) × ((register_call w bytes capacity).answer ≡ Registered.Number k)
+  pub register_zero : refusal_of (register_call w bytes capacity).answer ≡ 0 → (k : BufferNumber) × ((register_call w bytes capacity).answer ≡ Ok k)
   register_zero z = go register_case
     where
-      go : RegisterCase → (k : BufferNumber) × ((register_call w bytes capacity).answer ≡ Registered.Number k)
+      go : RegisterCase → (k : BufferNumber) × ((register_call w bytes capacity).answer ≡ Ok k)
       go (number p k e) = (k, e)
       go (refusal n a e q) = absurd (among_not 0 refl a (sym (ap refusal_of e) ∙ z))
 

@@ -1,6 +1,6 @@
 -- Every call: its answer, and the world after it. A refusal gives its number, and the world is the old one.
 use Rattle.std.specs.Prelude.{ℕ, zero, suc, ◌+◌, ◌*◌, ◌-◌, Bool, ◌&&◌, not, cond, List, [], ◌∷◌, length, replicate, ltb, eqb}
-use Rattle.std.proofs.Math.Option.{Option, none, some}
+use Rattle.std.specs.Prelude.{Option, None, Some}
 use Rattle.search.specs.InOrder.{test, in_order}
 use Rattle.words.specs.Run.{read}
 use Rattle.bits.specs.Bits.{bits_from}
@@ -9,13 +9,10 @@ use Rattle.listings.specs.Listing.{unlisted_one, over_list}
 use Rattle.sound.specs.Sound.{filled_bytes}
 use Rattle.views.specs.declared.View.{View}
 use Rattle.views.specs.View.{view_of, is_inline}
-use Rattle.pool.specs.declared.Registered.{Registered}
 use Rattle.pool.specs.Register.{registered, let_go}
 use Rattle.pool.specs.Read.{read_refusal, part_of}
 use Rattle.state.specs.declared.BatchCoalescer.{BatchCoalescer}
 use Rattle.state.specs.declared.Column.{Column}
-use Rattle.state.specs.declared.Limit.{Limit}
-use Rattle.state.specs.declared.OpenBlock.{OpenBlock}
 use Rattle.state.specs.declared.Place.{Place}
 use Rattle.state.specs.declared.RowAnswer.{RowAnswer}
 use Rattle.state.specs.World.{World}
@@ -25,6 +22,9 @@ use Rattle.rules.specs.Batch.{Batch}
 use Rattle.rules.specs.Ranges.{fits_set_up, tested}
 use Rattle.rules.specs.Steps.{Res, ok, refuse, each, with_counts, in_state, in_books, counting}
 use Rattle.rules.specs.Push.{pushed, finished}
+use Rattle.std.specs.Prelude.{Result, Err}
+use Rattle.counts.specs.declared.BufferNumber.{BufferNumber}
+use Rattle.counts.specs.declared.RowCount.{RowCount}
 
 -- an answer, and the world that goes with it
 pub record Answered : Type 0 where
@@ -50,7 +50,7 @@ pub record Wanted : Type 0 where
 
 -- the column of a kind, and n columns: of the kinds asked for, then none
 abbrev pub of_kind : ℕ → Column
-of_kind k = record { kind = k; source = fresh; block = OpenBlock.Closed }
+of_kind k = record { kind = k; source = fresh; block = None }
 
 unfoldable pub columns_for : List ℕ → ℕ → List Column
 columns_for kinds zero = []
@@ -68,7 +68,7 @@ new_state a =
       lists = a.lists;
       numbers = a.numbers;
       pool = record { 0 = a.pool };
-      limit = Limit.Unset;
+      limit = None;
       place = 0;
       queued = 0;
       buffered = record { 0 = 0 };
@@ -127,14 +127,14 @@ drop_call w =
 
 -- register and let go, behind the tests. 01: "Registering: 13, 11, 12."
 pub record RegisterAnswer : Type 0 where
-  pub answer : Registered
+  pub answer : Result BufferNumber ℕ
   pub world : World
 
 unfoldable pub register_call : World → List ℕ → ℕ → RegisterAnswer
 register_call w bytes capacity =
     let o = registered w.books w.pool w.state.numbers bytes capacity in
     cond (eqb (tested w) 0) (record { answer = o.answer; world = record { state = w.state; slots = w.slots; pool = o.pool; books = o.books } })
-    (record { answer = Registered.Refused (tested w); world = w })
+    (record { answer = Err (tested w); world = w })
 
 unfoldable pub let_go_call : World → ℕ → Answered
 let_go_call w i =
@@ -183,9 +183,9 @@ place_bytes w (Place.InRow start n) = read start n.0 w.slots
 place_bytes w (Place.InBuffer k offset n) = read offset n.0 (filled_bytes w.books w.pool k.0)
 
 abbrev pub read_as : World → RowAnswer → Option Cell
-read_as w RowAnswer.Null = some null
-read_as w (RowAnswer.Value p) = some (value (place_bytes w p))
-read_as w (RowAnswer.Refused number) = none
+read_as w RowAnswer.Null = Some null
+read_as w (RowAnswer.Value p) = Some (value (place_bytes w p))
+read_as w (RowAnswer.Refused number) = None
 
 -- the read of a buffer, and the number beside it
 unfoldable pub buffer_number_call : World → ℕ → ℕ
@@ -197,7 +197,7 @@ buffer_call w i = cond (eqb (tested w) 0) (part_of w.books w.pool i) []
 -- ---- the calls on the state alone, which refuse nothing
 
 -- set_biggest_coalesce_batch_size is `with_limit`; biggest_coalesce_batch_size
-unfoldable pub limit_of : BatchCoalescer → Limit
+unfoldable pub limit_of : BatchCoalescer → Option RowCount
 limit_of s = s.limit
 
 -- get_buffered_rows, has_completed_batch, is_empty

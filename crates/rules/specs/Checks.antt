@@ -1,6 +1,6 @@
 -- The checks of a pushed batch, 2 to 7, in their order, with the first column and row at fault.
 use Rattle.std.specs.Prelude.{ℕ, ◌+◌, ◌*◌, ◌/◌, Bool, true, false, ◌&&◌, not, cond, List, [], ◌∷◌, length, leb, eqb}
-use Rattle.std.proofs.Math.Option.{Option, none, some}
+use Rattle.std.specs.Prelude.{Option, None, Some}
 use Rattle.search.specs.First.{first}
 use Rattle.search.specs.Every.{every}
 use Rattle.search.specs.InOrder.{test, in_order}
@@ -62,16 +62,16 @@ bad_row w b c = first (λ i. not (valid_row w b c i)) b.rows
 
 -- a fault of the batch at a column and a row
 abbrev pub fault : ℕ → ℕ → ℕ → Option Fault
-fault number column row = some (record { number = number; column = column; row = row })
+fault number column row = Some (record { number = number; column = column; row = row })
 
 -- the fault as the code answers it: number 0 where there is none
 abbrev pub fault_of : Option Fault → Fault
-fault_of none = record { number = 0; column = 0; row = 0 }
-fault_of (some f) = f
+fault_of None = record { number = 0; column = 0; row = 0 }
+fault_of (Some f) = f
 
 abbrev pub row_fault : ℕ → Option ℕ → Option Fault
-row_fault c none = none
-row_fault c (some i) = fault 7 c i
+row_fault c None = None
+row_fault c (Some i) = fault 7 c i
 
 -- the first fault of column c. 01: "then per column 4, 5, 6, and 7 by rows"
 unfoldable pub column_fault : World → Batch → ℕ → Option Fault
@@ -81,12 +81,12 @@ column_fault w b c =
     (row_fault c (bad_row w b c))
 
 abbrev pub is_fault : Option Fault → Bool
-is_fault none = false
-is_fault (some f) = true
+is_fault None = false
+is_fault (Some f) = true
 
 abbrev pub of_column : (ℕ → Option Fault) → Option ℕ → Option Fault
-of_column f none = none
-of_column f (some c) = f c
+of_column f None = None
+of_column f (Some c) = f c
 
 -- the first fault of the batch. 01: "then 2, 3, then per column ..": 2 "record bytes not 32 x columns", 3 "rows over R"
 unfoldable pub batch_fault : World → Batch → Option Fault

@@ -3,7 +3,7 @@ use Rattle.std.specs.Prelude.{ℕ, ◌*◌, ◌≤◌, ◌<◌, ◌≡◌, ◌�
 use Rattle.std.proofs.Common.{◌∙◌}
 use Rattle.std.proofs.Math.Path.{ap}
 use Rattle.std.proofs.Math.Bool.{not}
-use Rattle.std.proofs.Math.Option.{none, some}
+use Rattle.std.specs.Prelude.{None, Some}
 use borrow.Author.Tests.{le-leb, lt-leb, eq-eqb, ne_eqb}
 use Rattle.search.specs.First.{first}
 use Rattle.search.specs.FirstLaws.{at_is, nothing_is}
@@ -35,7 +35,7 @@ module _ (w : World) (b : Batch) where
         (ap (row_fault c)
         (at_is (λ i. not (valid_row w b c i)) b.rows i (record { below = l; accepted = ap not v; others = λ j h. ap not (o j h) })))
 
-    pub column-none : keeps_rules w b c ≡ true → lies_in_body w b c ≡ true → all_held w b c ≡ true → ((i : ℕ) → i < b.rows → valid_row w b c i ≡ true) → column_fault w b c ≡ none
+    pub column-none : keeps_rules w b c ≡ true → lies_in_body w b c ≡ true → all_held w b c ≡ true → ((i : ℕ) → i < b.rows → valid_row w b c i ≡ true) → column_fault w b c ≡ None
     unfolding column_fault bad_row
     column-none p q r o =
         rw (p, q, r) (ap (row_fault c) (nothing_is (λ i. not (valid_row w b c i)) b.rows (λ i h. ap not (o i h))))
@@ -58,7 +58,7 @@ module _ (w : World) (b : Batch) where
     columns_left =
         rw (eq-eqb (length b.records) (32 * w.state.columns) h, le-leb b.rows w.state.rows.0 l)
 
-    pub batch-at : (c : ℕ) (f : Fault) → c < w.state.columns → ((k : ℕ) → k < c → column_fault w b k ≡ none) → column_fault w b c ≡ some f → batch_fault w b ≡ some f
+    pub batch-at : (c : ℕ) (f : Fault) → c < w.state.columns → ((k : ℕ) → k < c → column_fault w b k ≡ None) → column_fault w b c ≡ Some f → batch_fault w b ≡ Some f
     batch-at c f m o e =
         columns_left
         ∙ ap (of_column (column_fault w b))
@@ -66,7 +66,7 @@ module _ (w : World) (b : Batch) where
         (record { below = m; accepted = ap is_fault e; others = λ k n. ap is_fault (o k n) }))
         ∙ e
 
-    pub batch-none : ((c : ℕ) → c < w.state.columns → column_fault w b c ≡ none) → batch_fault w b ≡ none
+    pub batch-none : ((c : ℕ) → c < w.state.columns → column_fault w b c ≡ None) → batch_fault w b ≡ None
     batch-none o =
         columns_left
         ∙ ap (of_column (column_fault w b))

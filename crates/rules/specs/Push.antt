@@ -1,9 +1,8 @@
 -- Push, step by step: 01's four steps, queueing whole, finishing; and what a push gives.
 use Rattle.std.specs.Prelude.{ℕ, zero, suc, ◌+◌, ◌-◌, Bool, false, not, cond, List, [], ◌∷◌, ltb, leb, eqb}
-use Rattle.std.proofs.Math.Option.{Option, none, some}
+use Rattle.std.specs.Prelude.{Option, None, Some}
 use Rattle.search.specs.Every.{every}
 use Rattle.search.specs.InOrder.{test, in_order}
-use Rattle.state.specs.declared.Limit.{Limit}
 use Rattle.state.specs.World.{World}
 use Rattle.state.specs.Layout.{is_views, list_length}
 use Rattle.rules.specs.Batch.{Batch, record_of}
@@ -12,6 +11,7 @@ use Rattle.rules.specs.Checks.{batch_fault}
 use Rattle.rules.specs.Ranges.{tested}
 use Rattle.rules.specs.Steps.{Res, ok, refuse, bind, each, buffering, queueing}
 use Rattle.rules.specs.Views.{span, filling, closed, bits_copied, values_copied, list_attached, part_copied}
+use Rattle.counts.specs.declared.RowCount.{RowCount}
 
 -- the open block of each column of views joins its list. 01: "each column's open block joins its list and the slot is queued"
 unfoldable pub all_closed : World → World
@@ -69,9 +69,9 @@ unfoldable pub cut_up : World → Batch → Res
 cut_up w b = in_parts (full_parts b.rows w.state.target.0 w.state.buffered.0 b.rows) w w b 0
 
 -- n rows are more than the limit, where one is set
-abbrev pub over_limit : Limit → ℕ → Bool
-over_limit Limit.Unset n = false
-over_limit (Limit.Rows limit) n = ltb limit.0 n
+abbrev pub over_limit : Option RowCount → ℕ → Bool
+over_limit None n = false
+over_limit (Some limit) n = ltb limit.0 n
 
 -- step 2: "Limit set and rows > limit (001): with 0 buffered, queue the batch whole; with buffered > limit, finish the buffered rows, then
 -- queue it whole; else go on."
@@ -85,8 +85,8 @@ stepped w b =
 
 -- a fault of the batch before the result of the steps
 abbrev pub or_fault : Option Fault → Res → Res
-or_fault none r = r
-or_fault (some f) r = refuse f.number
+or_fault None r = r
+or_fault (Some f) r = refuse f.number
 
 -- 01: "Order for a push: 1, 14, then step 1, then 2, 3, then per column 4, 5, 6, and 7 by rows. Room is worked out along the push
 -- steps; the first step without it names the number."; step 1: "0 rows: done, nothing changes, before any batch check."

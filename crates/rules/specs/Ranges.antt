@@ -3,18 +3,18 @@ use Rattle.std.specs.Prelude.{ℕ, ◌+◌, ◌*◌, Bool, true, false, ◌&&◌
 use Rattle.search.specs.Every.{every}
 use Rattle.search.specs.InOrder.{test, in_order}
 use Rattle.words.specs.Word.{word32}
-use Rattle.kinds.specs.declared.Width.{Width}
 use Rattle.kinds.specs.Kind.{width_at}
 use Rattle.books.specs.Entry.{is_free_at}
 use Rattle.pool.specs.Read.{in_range}
 use Rattle.state.specs.declared.BatchCoalescer.{BatchCoalescer}
-use Rattle.state.specs.declared.OpenBlock.{OpenBlock}
 use Rattle.state.specs.World.{World, column_of}
 use Rattle.state.specs.Layout.{is_views, list_place, slots_length, books_length, rows_in, list_length}
+use Rattle.std.specs.Prelude.{Option, Some, None}
+use Rattle.counts.specs.declared.BufferNumber.{BufferNumber}
 
-abbrev pub is_kind : Width → Bool
-is_kind (Width.Bytes n) = true
-is_kind Width.NoKind = false
+abbrev pub is_kind : Option ℕ → Bool
+is_kind (Some n) = true
+is_kind None = false
 
 abbrev pub between : ℕ → ℕ → ℕ → Bool
 between lo x hi = leb lo x && leb x hi
@@ -38,20 +38,20 @@ fits_set_up w =
     && (eqb (length w.pool) w.state.pool.0 && eqb (length w.books) (books_length w.state)))
 
 -- column d, of views, has block k open
-abbrev pub is_block : ℕ → OpenBlock → Bool
-is_block k (OpenBlock.Number j) = eqb j.0 k
-is_block k OpenBlock.Closed = false
+abbrev pub is_block : ℕ → Option BufferNumber → Bool
+is_block k (Some j) = eqb j.0 k
+is_block k None = false
 
 unfoldable pub has_open : BatchCoalescer → ℕ → ℕ → Bool
 has_open s k d = is_views s d && is_block k (column_of s d).block
 
 -- 14, column by column: "a view column's kept block size below 4,096 or over 1,048,576"; an open block whose number is not below N or is
 -- free, that its list has no place for, or that a column before has open too (DECISIONS 3 and 11)
-abbrev pub block_in_range : BatchCoalescer → List ℕ → ℕ → ℕ → OpenBlock → Bool
-block_in_range s books list c (OpenBlock.Number k) =
+abbrev pub block_in_range : BatchCoalescer → List ℕ → ℕ → ℕ → Option BufferNumber → Bool
+block_in_range s books list c (Some k) =
     ltb k.0 s.numbers
     && (not (is_free_at books k.0) && (ltb list s.lists && every (λ d. not (has_open s k.0 d)) c))
-block_in_range s books list c OpenBlock.Closed = true
+block_in_range s books list c None = true
 
 unfoldable pub column_in_range : World → ℕ → Bool
 column_in_range w c =

@@ -12,11 +12,12 @@ use Rattle.words.specs.Word.{word32}
 use Rattle.listings.specs.Listing.{over_list, no_entry, freed, taken, free_unused, with_listings, listed_one, unlisted_one, released}
 use Rattle.listings.specs.ListingLaws.{length-with_used}
 use Rattle.sound.specs.Change.{with_length}
-use Rattle.room.specs.declared.Chosen.{Chosen}
 use Rattle.room.specs.Room.{chosen, block_room, taken_for, opened_as, opened}
 use Rattle.words.specs.RunLaws.{length-put}
 use Rattle.pool.specs.RegisterLaws.{bytes_room}
 use Rattle.pool.specs.Register.{RegisterOutcome, Gone, settled_at, registered, is_held, let_go}
+use Rattle.std.specs.Prelude.{Result, Ok, Err}
+use Rattle.room.specs.declared.Room.{Room}
 
 module _ (s : List ℕ) (i : ℕ) where
   pub length-with_length : (v : ℕ) → length (with_length s i v) ≡ length s
@@ -64,17 +65,17 @@ length-over_list f h s l zero = refl
 length-over_list f h s l (suc n) = h (over_list f s l n) (word32 l (4 * n)) ∙ length-over_list f h s l n
 
 -- an opened block, and registered bytes
-for_room : (s : List ℕ) (capacity hold listings : ℕ) (c : Chosen) → length (taken_for s capacity hold listings c).books ≡ length s
-for_room s capacity hold listings (Chosen.Refused number) = refl
-for_room s capacity hold listings (Chosen.At r) = length_taken s r.number.0 _
+for_room : (s : List ℕ) (capacity hold listings : ℕ) (c : Result Room ℕ) → length (taken_for s capacity hold listings c).books ≡ length s
+for_room s capacity hold listings (Err number) = refl
+for_room s capacity hold listings (Ok r) = length_taken s r.number.0 _
 
 pub length-opened : (s : List ℕ) (n pool capacity : ℕ) → length (opened s n pool capacity).books ≡ length s
 unfolding opened opened_as
 length-opened s n pool capacity = for_room s capacity 0 1 (block_room s n pool capacity)
 
-at_room : (s p bytes : List ℕ) (capacity : ℕ) (c : Chosen) → length (settled_at s p bytes capacity c).books ≡ length s
-at_room s p bytes capacity (Chosen.Refused number) = refl
-at_room s p bytes capacity (Chosen.At r) = length_taken s r.number.0 _
+at_room : (s p bytes : List ℕ) (capacity : ℕ) (c : Result Room ℕ) → length (settled_at s p bytes capacity c).books ≡ length s
+at_room s p bytes capacity (Err number) = refl
+at_room s p bytes capacity (Ok r) = length_taken s r.number.0 _
 
 pub length-registered : (s p : List ℕ) (n : ℕ) (bytes : List ℕ) (capacity : ℕ) → length (registered s p n bytes capacity).books ≡ length s
 unfolding registered
@@ -83,9 +84,9 @@ length-registered s p n bytes capacity =
     (λ h. at_room s p bytes capacity (chosen s n (length p) capacity))
 
 -- registered bytes lie in the pool
-placed_pool : (s p : List ℕ) (n : ℕ) (bytes : List ℕ) (capacity : ℕ) (c : Chosen) → length bytes ≤ capacity → c ≡ chosen s n (length p) capacity → length (settled_at s p bytes capacity c).pool ≡ length p
-placed_pool s p n bytes capacity (Chosen.Refused number) h e = refl
-placed_pool s p n bytes capacity (Chosen.At r) h e = length-put r.start bytes p (bytes_room s p n bytes capacity h e refl)
+placed_pool : (s p : List ℕ) (n : ℕ) (bytes : List ℕ) (capacity : ℕ) (c : Result Room ℕ) → length bytes ≤ capacity → c ≡ chosen s n (length p) capacity → length (settled_at s p bytes capacity c).pool ≡ length p
+placed_pool s p n bytes capacity (Err number) h e = refl
+placed_pool s p n bytes capacity (Ok r) h e = length-put r.start bytes p (bytes_room s p n bytes capacity h e refl)
 
 pub pool-registered : (s p : List ℕ) (n : ℕ) (bytes : List ℕ) (capacity : ℕ) → length (registered s p n bytes capacity).pool ≡ length p
 unfolding registered

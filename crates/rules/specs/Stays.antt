@@ -4,9 +4,10 @@ use Rattle.std.proofs.Common.{◌∙◌, ap}
 use Rattle.blocks.specs.declared.BufferSource.{BufferSource}
 use Rattle.state.specs.declared.BatchCoalescer.{BatchCoalescer}
 use Rattle.state.specs.declared.Column.{Column}
-use Rattle.state.specs.declared.OpenBlock.{OpenBlock}
 use Rattle.state.specs.World.{World, no_column, column_of}
 use Rattle.rules.specs.Steps.{each, with_counts, with_column}
+use Rattle.std.specs.Prelude.{Option}
+use Rattle.counts.specs.declared.BufferNumber.{BufferNumber}
 
 -- two states of one set-up. 01: "Set-up fixes, within bounds: target T ..; slot rows R ..; queue Q ..; columns .., each of a kind ..;
 -- buffers in one column of one batch B ..; buffer numbers N ..; pool .."; and the limit, which only its setter changes
@@ -72,7 +73,7 @@ kind_set (y ∷ l) zero (suc k) x e = refl
 kind_set (y ∷ l) (suc c) zero x e = refl
 kind_set (y ∷ l) (suc c) (suc k) x e = kind_set l c k x e
 
-pub same-column : (s : BatchCoalescer) (c : ℕ) (source : BufferSource) (block : OpenBlock) → SameSetUp s (with_column s c source block)
+pub same-column : (s : BatchCoalescer) (c : ℕ) (source : BufferSource) (block : Option BufferNumber) → SameSetUp s (with_column s c source block)
 unfolding column_of
 same-column s c source block =
     record {

@@ -5,11 +5,11 @@ use Rattle.tallies.specs.Tally.{with_tally}
 use Rattle.counts.specs.declared.RowCount.{RowCount}
 use Rattle.state.specs.declared.BatchCoalescer.{BatchCoalescer}
 use Rattle.state.specs.declared.Column.{Column}
-use Rattle.state.specs.declared.Limit.{Limit}
-use Rattle.state.specs.declared.OpenBlock.{OpenBlock}
 use Rattle.blocks.specs.declared.BufferSource.{BufferSource}
 use Rattle.state.specs.World.{World, column_of}
 use Rattle.state.specs.Layout.{tally, list_place, list_length, next_slot}
+use Rattle.std.specs.Prelude.{Option}
+use Rattle.counts.specs.declared.BufferNumber.{BufferNumber}
 
 -- a world, or the number of a refusal
 pub data Res : Type 0 where
@@ -32,7 +32,7 @@ each zero f w = w
 each (suc n) f w = f (each n f w) n
 
 -- the state with what set-up fixed and all else anew
-abbrev pub with_rest : BatchCoalescer → Limit → ℕ → ℕ → RowCount → List Column → BatchCoalescer
+abbrev pub with_rest : BatchCoalescer → Option RowCount → ℕ → ℕ → RowCount → List Column → BatchCoalescer
 with_rest s limit place queued buffered column =
     record {
       target = s.target;
@@ -50,13 +50,13 @@ with_rest s limit place queued buffered column =
     }
 
 -- with another limit; with other counts; with another column c
-abbrev pub with_limit : BatchCoalescer → Limit → BatchCoalescer
+abbrev pub with_limit : BatchCoalescer → Option RowCount → BatchCoalescer
 with_limit s limit = with_rest s limit s.place s.queued s.buffered s.column
 
 abbrev pub with_counts : BatchCoalescer → ℕ → ℕ → ℕ → BatchCoalescer
 with_counts s place queued buffered = with_rest s s.limit place queued (record { 0 = buffered }) s.column
 
-abbrev pub with_column : BatchCoalescer → ℕ → BufferSource → OpenBlock → BatchCoalescer
+abbrev pub with_column : BatchCoalescer → ℕ → BufferSource → Option BufferNumber → BatchCoalescer
 with_column s c source block =
     with_rest s s.limit s.place s.queued s.buffered
     (set s.column c (record { kind = (column_of s c).kind; source = source; block = block }))

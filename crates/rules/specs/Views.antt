@@ -1,6 +1,6 @@
 -- A part of a pushed column copied into the slot being filled: values, validity, and the three ways of views.
 use Rattle.std.specs.Prelude.{ℕ, ◌+◌, ◌*◌, ◌-◌, List, Bool, true, false, cond, length, ltb, leb}
-use Rattle.std.proofs.Math.Option.{Option, none, some}
+use Rattle.std.specs.Prelude.{Option, None, Some}
 use Rattle.search.specs.First.{first}
 use Rattle.words.specs.Run.{read, lay}
 use Rattle.bits.specs.Bits.{appended}
@@ -10,10 +10,8 @@ use Rattle.listings.specs.Listing.{listed_one, over_list}
 use Rattle.sound.specs.Change.{with_length}
 use Rattle.views.specs.declared.View.{View}
 use Rattle.views.specs.View.{raised_by, repointed}
-use Rattle.room.specs.declared.Chosen.{Chosen}
 use Rattle.room.specs.Room.{Outcome, opened}
 use Rattle.state.specs.declared.BatchCoalescer.{BatchCoalescer}
-use Rattle.state.specs.declared.OpenBlock.{OpenBlock}
 use Rattle.state.specs.World.{World, column_of}
 use Rattle.state.specs.Layout.{width_of, is_views, bitmap_place, bitmap_bytes, list_place, cell_place, list_length}
 use Rattle.rules.specs.declared.ColumnRecord.{ColumnRecord}
@@ -21,6 +19,9 @@ use Rattle.rules.specs.declared.Way.{Way}
 use Rattle.rules.specs.Batch.{Batch, record_of, bit_of, listed_number, list_of, row_view, ideal, way}
 use Rattle.rules.specs.Copies.{views_put, long_to, bytes_carried, starts_fit}
 use Rattle.rules.specs.Steps.{Res, ok, refuse, bind, for_each, with_column, in_state, in_slots, in_books, counting, listing}
+use Rattle.std.specs.Prelude.{Result, Ok, Err}
+use Rattle.counts.specs.declared.BufferNumber.{BufferNumber}
+use Rattle.room.specs.declared.Room.{Room}
 
 -- the slot being filled
 abbrev pub filling : World → ℕ
@@ -56,13 +57,13 @@ values_copied w b slot (span c at from n) =
 
 -- ---- blocks
 
-abbrev pub has_block : OpenBlock → Bool
-has_block (OpenBlock.Number k) = true
-has_block OpenBlock.Closed = false
+abbrev pub has_block : Option BufferNumber → Bool
+has_block (Some k) = true
+has_block None = false
 
-abbrev pub block_number : OpenBlock → ℕ
-block_number (OpenBlock.Number k) = k.0
-block_number OpenBlock.Closed = 0
+abbrev pub block_number : Option BufferNumber → ℕ
+block_number (Some k) = k.0
+block_number None = 0
 
 -- column c's open block, its number, and the rest of it: capacity less filled length
 abbrev pub is_open : World → ℕ → Bool
@@ -82,7 +83,7 @@ unfoldable pub closed : World → ℕ → World
 closed w c =
     cond (is_open w c)
     (in_state (listing w (filling w) c (open_number w c))
-    (with_column w.state c (column_of w.state c).source OpenBlock.Closed))
+    (with_column w.state c (column_of w.state c).source None))
     w
 
 -- a block opened for a minimum. 01: "Opening a block tests 10, 11, 12"; 10 where the list and the block would pass B (DECISIONS 3)
@@ -90,12 +91,12 @@ abbrev pub opening : World → ℕ → ℕ → Outcome → Res
 opening w c min o =
     by_answer o.answer
   where
-    by_answer : Chosen → Res
-    by_answer (Chosen.Refused number) = refuse number
-    by_answer (Chosen.At r) =
+    by_answer : Result Room ℕ → Res
+    by_answer (Err number) = refuse number
+    by_answer (Ok r) =
         ok
         (in_state (in_books w o.books)
-        (with_column w.state c (asked (column_of w.state c).source (record { 0 = min })).source (OpenBlock.Number r.number)))
+        (with_column w.state c (asked (column_of w.state c).source (record { 0 = min })).source (Some r.number)))
 
 unfoldable pub block_opened : World → ℕ → ℕ → Res
 block_opened w c min =
@@ -144,8 +145,8 @@ views_compacted w b (span c at from n) =
 -- how many of the n views from `from` on the walk takes. 01: "walk the part's views while the rest is at least the length (lengths
 -- over 12 lower the rest)": the first view that is longer than what the long ones before it leave, or all of them
 abbrev pub or_all : ℕ → Option ℕ → ℕ
-or_all n none = n
-or_all n (some i) = i
+or_all n None = n
+or_all n (Some i) = i
 
 unfoldable pub walked : World → Batch → ℕ → ℕ → ℕ → ℕ → ℕ
 walked w b c from n rest =

@@ -1,11 +1,11 @@
 -- The lowest number that a test accepts.
 use Rattle.std.specs.Prelude.{ℕ, zero, suc, ◌<◌, ◌≡◌, Bool, true, false, cond}
-use Rattle.std.proofs.Math.Option.{Option, none, some}
+use Rattle.std.specs.Prelude.{Option, None, Some}
 
 -- the lowest of the k numbers from i on that the test accepts, and none where there is none
 unfoldable pub first_from : (ℕ → Bool) → ℕ → ℕ → Option ℕ
-first_from p i zero = none
-first_from p i (suc k) = let r = first_from p (suc i) k in cond (p i) (some i) r
+first_from p i zero = None
+first_from p i (suc k) = let r = first_from p (suc i) k in cond (p i) (Some i) r
 
 -- the lowest number below n that the test accepts, and none where there is none
 abbrev pub first : (ℕ → Bool) → ℕ → Option ℕ

@@ -9,8 +9,6 @@ use Rattle.std.proofs.Math.Seq.{get_or-set_other}
 use Rattle.std.proofs.lemmas.List.Edits.{fill_none, fill_more}
 use Rattle.state.specs.declared.BatchCoalescer.{BatchCoalescer}
 use Rattle.state.specs.declared.Column.{Column}
-use Rattle.state.specs.declared.Limit.{Limit}
-use Rattle.state.specs.declared.OpenBlock.{OpenBlock}
 use Rattle.blocks.specs.declared.BufferSource.{BufferSource}
 use Rattle.blocks.specs.Block.{fresh}
 use Rattle.rules.specs.Ranges.{fits_set_up}
@@ -19,6 +17,7 @@ use Rattle.rules.specs.Calls.{of_kind, columns_for, new_state, no_state, set_up_
 use Rattle.rules.proofs.CallLaws.{set_up_done, set_up_not}
 use Rattle.set_up.specs.declared.Wanted.{Wanted}
 use Rattle.set_up.specs.SetUp.{padded, wanted_of, kind_at, kinds_put, SetsUp}
+use Rattle.std.specs.Prelude.{None}
 
 -- ---- kinds
 
@@ -56,7 +55,7 @@ padded-at n l i = go (dec_lt i n)
 
 -- ---- columns
 
-pub column-fresh : (kind : ℕ) {x : BufferSource} → x ≡ fresh → record { kind = kind; source = x; block = OpenBlock.Closed } ≡ of_kind kind
+pub column-fresh : (kind : ℕ) {x : BufferSource} → x ≡ fresh → record { kind = kind; source = x; block = None } ≡ of_kind kind
 column-fresh kind e = rw e
 
 pub columns_fresh : {x : Column} → x ≡ of_kind 0 → replicate 16 x ≡ replicate 16 (of_kind 0)
@@ -111,11 +110,11 @@ module _ (columns : ℕ) (kinds : List ℕ) where
 
 -- ---- states
 
-pub state_new : (w : Wanted) {column : List Column} → column ≡ columns_for (padded w.columns w.kinds) 16 → record { target = record { 0 = w.target.0 }; rows = record { 0 = w.rows.0 }; queue = w.queue; columns = w.columns; lists = w.lists; numbers = w.numbers; pool = record { 0 = w.pool.0 }; limit = Limit.Unset; place = 0; queued = 0; buffered = record { 0 = 0 }; column = column } ≡ new_state (wanted_of w)
+pub state_new : (w : Wanted) {column : List Column} → column ≡ columns_for (padded w.columns w.kinds) 16 → record { target = record { 0 = w.target.0 }; rows = record { 0 = w.rows.0 }; queue = w.queue; columns = w.columns; lists = w.lists; numbers = w.numbers; pool = record { 0 = w.pool.0 }; limit = None; place = 0; queued = 0; buffered = record { 0 = 0 }; column = column } ≡ new_state (wanted_of w)
 unfolding new_state wanted_of
 state_new w e = rw (e, length-padded w.columns w.kinds)
 
-pub state_none : {column : List Column} → column ≡ replicate 16 (of_kind 0) → record { target = record { 0 = 0 }; rows = record { 0 = 0 }; queue = 0; columns = 0; lists = 0; numbers = 0; pool = record { 0 = 0 }; limit = Limit.Unset; place = 0; queued = 0; buffered = record { 0 = 0 }; column = column } ≡ no_state
+pub state_none : {column : List Column} → column ≡ replicate 16 (of_kind 0) → record { target = record { 0 = 0 }; rows = record { 0 = 0 }; queue = 0; columns = 0; lists = 0; numbers = 0; pool = record { 0 = 0 }; limit = None; place = 0; queued = 0; buffered = record { 0 = 0 }; column = column } ≡ no_state
 unfolding new_state columns_for
 state_none e = rw e
 

@@ -9,7 +9,7 @@ ghost use Rattle.set_up.specs.SetUp.{padded, kind_at, wanted_of, SetsUp};
 use blocks::BufferSource;
 use counts::{ByteCount, RowCount};
 use rules::Step;
-use state::{BatchCoalescer, Column, Limit, OpenBlock};
+use state::{BatchCoalescer, Column};
 
 // What set-up is asked for. Kinds past the last column are not read.
 #[derive(Clone, Copy)]
@@ -31,7 +31,7 @@ fn fresh_column(kind: u32) -> Column
     Column {
         kind,
         source: BufferSource::new(),
-        block: OpenBlock::Closed,
+        block: None,
     }
 }
 
@@ -77,7 +77,7 @@ fn fresh_state(w: Wanted) -> BatchCoalescer
         lists: w.lists,
         numbers: w.numbers,
         pool: ByteCount(w.pool.0),
-        limit: Limit::Unset,
+        limit: None,
         place: 0,
         queued: 0,
         buffered: RowCount(0),
@@ -98,7 +98,7 @@ fn no_state() -> BatchCoalescer
         lists: 0,
         numbers: 0,
         pool: ByteCount(0),
-        limit: Limit::Unset,
+        limit: None,
         place: 0,
         queued: 0,
         buffered: RowCount(0),

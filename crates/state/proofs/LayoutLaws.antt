@@ -3,11 +3,10 @@ use Prim.Native.Nat.{ℕ, zero, suc, ◌+◌, ◌*◌, ◌≤◌, ◌<◌}
 use Rattle.std.specs.Prelude.{◌≡◌, true}
 use Rattle.std.proofs.Math.Path.{refl}
 use Rattle.std.proofs.Common.{ap}
-use Rattle.std.proofs.Math.Option.{Option, none, some}
+use Rattle.std.specs.Prelude.{Option, None, Some}
 use native.Mathlib.Omega.{arith}
 use Rattle.std.proofs.Math.Nat.{add-mul, mul-le-mul_right}
 use Rattle.std.proofs.Math.Decide.{dec_le}
-use Rattle.kinds.specs.declared.Width.{Width}
 use Rattle.kinds.specs.Kind.{Kind, Layout, fixed, view, layout_of, bytes_of, shown, kind_of, width_in, width_at, view_in, is_view}
 use Rattle.state.specs.declared.BatchCoalescer.{BatchCoalescer}
 use Rattle.state.specs.World.{column_of}
@@ -18,11 +17,11 @@ shown-bytes : (l : Layout) → shown l ≡ true → bytes_of l ≡ 16
 shown-bytes (fixed bits) e = cc
 shown-bytes view e = refl
 
-view_in_lem : (k : Option Kind) → view_in k ≡ true → width_in k ≡ Width.Bytes 16
-view_in_lem none e = cc
-view_in_lem (some k) e = ap Width.Bytes (shown-bytes (layout_of k) e)
+view_in_lem : (k : Option Kind) → view_in k ≡ true → width_in k ≡ Some 16
+view_in_lem None e = cc
+view_in_lem (Some k) e = ap Some (shown-bytes (layout_of k) e)
 
-pub view-width : (n : ℕ) → is_view n ≡ true → width_at n ≡ Width.Bytes 16
+pub view-width : (n : ℕ) → is_view n ≡ true → width_at n ≡ Some 16
 unfolding is_view width_at
 view-width n e = view_in_lem (kind_of n) e
 

@@ -1,15 +1,15 @@
 -- Where things lie in slots and books: docs/LAYOUT.md as formulas.
 use Rattle.std.specs.Prelude.{ℕ, zero, suc, ◌+◌, ◌*◌, ◌/◌, ◌-◌, Bool, cond, leb}
-use Rattle.kinds.specs.declared.Width.{Width}
 use Rattle.kinds.specs.Kind.{width_at, is_view}
 use Rattle.tallies.specs.declared.Tally.{Tally}
 use Rattle.tallies.specs.Tally.{tally_of}
 use Rattle.state.specs.declared.BatchCoalescer.{BatchCoalescer}
 use Rattle.state.specs.World.{World, column_of}
+use Rattle.std.specs.Prelude.{Option, Some, None}
 
-abbrev pub bytes_in : Width → ℕ
-bytes_in (Width.Bytes w) = w
-bytes_in Width.NoKind = 0
+abbrev pub bytes_in : Option ℕ → ℕ
+bytes_in (Some w) = w
+bytes_in None = 0
 
 -- the bytes of one row of column c, and whether it is a column of views
 unfoldable pub width_of : BatchCoalescer → ℕ → ℕ

@@ -6,9 +6,10 @@ use Rattle.words.specs.Run.{read}
 use Rattle.bits.specs.Bits.{bits_from}
 use Rattle.views.specs.View.{view_of, shows}
 use Rattle.sound.specs.Sound.{filled_bytes}
-use Rattle.state.specs.declared.OpenBlock.{OpenBlock}
 use Rattle.state.specs.World.{World, column_of}
 use Rattle.state.specs.Layout.{width_of, is_views, bitmap_place, list_place, cell_place, rows_in, list_length, queued_slot}
+use Rattle.std.specs.Prelude.{Option, Some, None}
+use Rattle.counts.specs.declared.BufferNumber.{BufferNumber}
 
 -- a row of one column. 01: "a row is null or a value"
 pub data Cell : Type 0 where
@@ -34,9 +35,9 @@ unfoldable pub listed_at : World → ℕ → ℕ → ℕ → ℕ
 listed_at w slot c i = word32 w.slots (list_place w.state slot c + 4 * i)
 
 -- the bytes of an open block, and no bytes where none is open
-abbrev pub open_bytes : World → OpenBlock → List ℕ
-open_bytes w (OpenBlock.Number k) = filled_bytes w.books w.pool k.0
-open_bytes w OpenBlock.Closed = []
+abbrev pub open_bytes : World → Option BufferNumber → List ℕ
+open_bytes w (Some k) = filled_bytes w.books w.pool k.0
+open_bytes w None = []
 
 -- the bytes of the buffer at index i of column c of a slot: below the list's length of the number listed there; at the length, in the slot
 -- being filled, of the open block (DECISIONS 7: "buffered long views carry index = list length meanwhile"); past it there are none

@@ -2,7 +2,7 @@
 use Rattle.std.specs.Prelude.{ℕ, List, get_or}
 use Rattle.state.specs.declared.BatchCoalescer.{BatchCoalescer}
 use Rattle.state.specs.declared.Column.{Column}
-use Rattle.state.specs.declared.OpenBlock.{OpenBlock}
+use Rattle.std.specs.Prelude.{None}
 
 -- 01, "Lent memory": state, slots, pool and books
 pub record World : Type 0 where
@@ -16,7 +16,7 @@ world s slots pool books = record { state = s; slots = slots; pool = pool; books
 
 -- what an element past the end of the array reads as: the column of zeros
 abbrev pub no_column : Column
-no_column = record { kind = 0; source = record { current = record { 0 = 0 } }; block = OpenBlock.Closed }
+no_column = record { kind = 0; source = record { current = record { 0 = 0 } }; block = None }
 
 -- column c of the state
 unfoldable pub column_of : BatchCoalescer → ℕ → Column

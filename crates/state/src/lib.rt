@@ -6,26 +6,12 @@
 use blocks::BufferSource;
 use counts::{BufferNumber, ByteCount, RowCount};
 
-// The large-batch limit, `biggest_coalesce_batch_size`: 0 is a limit too, so that none stands apart from every number.
-#[derive(Clone, Copy)]
-pub enum Limit {
-    Rows(RowCount),
-    Unset,
-}
-
-// The block that a view column is filling, `current`.
-#[derive(Clone, Copy)]
-pub enum OpenBlock {
-    Closed,
-    Number(BufferNumber),
-}
-
 // A column: its kind, the block size that it keeps across batches, and its open block.
 #[derive(Clone, Copy)]
 pub struct Column {
     pub kind: u32,
     pub source: BufferSource,
-    pub block: OpenBlock,
+    pub block: Option<BufferNumber>,
 }
 
 // The coalescer. target is T, rows R, queue Q, columns how many there are, lists B, numbers N, pool the bytes of the pool;
@@ -39,7 +25,7 @@ pub struct BatchCoalescer {
     pub lists: u32,
     pub numbers: u32,
     pub pool: ByteCount,
-    pub limit: Limit,
+    pub limit: Option<RowCount>,
     pub place: u32,
     pub queued: u32,
     pub buffered: RowCount,

@@ -1,6 +1,6 @@
 -- What the strip after rows keeps: at most seven out on a side, no name twice there, every name of 1 to 64 bytes; so its bytes hold it.
 use Rattle.std.specs.Prelude.{ℕ, ◌≡◌, refl, Bool, true, false, ◌&&◌, ◌||◌, cond, List, [], ◌∷◌, ◌++◌, eqb}
-use Rattle.std.proofs.Math.Option.{Option, none, some}
+use Rattle.std.specs.Prelude.{Option, None, Some}
 use Rattle.std.proofs.Common.{arith, lt-ltb}
 use Rattle.words.specs.WordLaws.{Bytes}
 use Rattle.state.specs.Rows.{Row}
@@ -73,8 +73,8 @@ rows-kept s rows h = rw (after_events s rows) (after_kept s (events_of rows) h)
 -- the last number is of 64 bits where its code is of bytes
 last_fits_lem : (l : Option ℕ) (r : List ℕ) → Bytes (last_code l ++ r) → last_fits l ≡ true
 unfolding last_code word_bytes last_fits
-last_fits_lem none r b = refl
-last_fits_lem (some n) r b = lt-ltb n 18446744073709551616 (omega (arith, b.byte 11))
+last_fits_lem None r b = refl
+last_fits_lem (Some n) r b = lt-ltb n 18446744073709551616 (omega (arith, b.byte 11))
 
 pub bytes_fit : (s : Strip) → Kept s → Named s → Bytes (code_of s) → StripFits s
 unfolding code_of

@@ -1,7 +1,7 @@
 -- A sheet shows the rows that the next drop takes, each cell of them, and no read of it is refused.
 use Rattle.std.specs.Prelude.{ℕ, zero, suc, ◌<◌, ◌≡◌, refl, ◌≢◌, true, List, [], ◌∷◌, ◌++◌, map}
 use Rattle.std.proofs.Common.{sym, ◌∙◌, ap, arith, lt-ltb}
-use Rattle.std.proofs.Math.Option.{some}
+use Rattle.std.specs.Prelude.{Some}
 use Rattle.search.specs.Cases.{both}
 use Rattle.words.specs.WordLaws.{Bytes}
 use Rattle.state.specs.World.{World}
@@ -29,13 +29,13 @@ is_row_lem w c i q h l =
     let p : 0 < w.state.queued = omega arith in
     both (lt-ltb 0 w.state.queued p) (both (lt-ltb c w.state.columns h) (lt-ltb i (rows_in w (front_slot w)) l))
 
-pub sheet-shows : (w : World) → Between w → Bytes w.slots → w.state.queued ≢ 0 → sheet w ≡ map (map some) (taken_rows w)
+pub sheet-shows : (w : World) → Between w → Bytes w.slots → w.state.queued ≢ 0 → sheet w ≡ map (map Some) (taken_rows w)
 unfolding sheet taken_rows slot_rows slot_row
 sheet-shows w g bytes q =
     upTo-ext (rows_in w (front_slot w)) _ _ (λ i l. row i l)
-    ∙ sym (map-upTo (map some) (rows_in w (front_slot w)) (slot_row w (front_slot w)))
+    ∙ sym (map-upTo (map Some) (rows_in w (front_slot w)) (slot_row w (front_slot w)))
   where
-    row : (i : ℕ) → i < rows_in w (front_slot w) → up_to w.state.columns (λ c. read_as w (read_row w c i)) ≡ map some (up_to w.state.columns (λ c. slot_cell w (front_slot w) c i))
+    row : (i : ℕ) → i < rows_in w (front_slot w) → up_to w.state.columns (λ c. read_as w (read_row w c i)) ≡ map Some (up_to w.state.columns (λ c. slot_cell w (front_slot w) c i))
     row i l =
         upTo-ext w.state.columns _ _ (λ c h. read_cell g bytes c i (is_row_lem w c i q h l))
-        ∙ sym (map-upTo some w.state.columns (λ c. slot_cell w (front_slot w) c i))
+        ∙ sym (map-upTo Some w.state.columns (λ c. slot_cell w (front_slot w) c i))

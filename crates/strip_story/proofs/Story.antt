@@ -2,7 +2,7 @@
 -- them, refused ones on other memory too. Its strip is worked out from the batches that it took, one behind another.
 use Rattle.std.specs.Prelude.{ℕ, ◌≤◌, ◌<◌, ◌≡◌, ◌≢◌, true, List, [], ◌∷◌, ◌++◌, map, length, get_or, drop}
 use Rattle.std.proofs.Common.{sym, ◌∙◌, ap}
-use Rattle.std.proofs.Math.Option.{none, some}
+use Rattle.std.specs.Prelude.{None, Some}
 use Rattle.words.specs.WordLaws.{Bytes}
 use Rattle.state.specs.Rows.{Row, taken_rows}
 use Rattle.invariant.specs.Holding.{Between}
@@ -80,7 +80,7 @@ every_name h d i l =
     (name_low (get_or (out_on (strip h) d) i []) n, name_high (get_or (out_on (strip h) d) i []) n)
 
 -- 02, K6: "32 row number not above the last accepted row's": the numbers of the accepted rows rise
-pub numbers_rise : (h : History) → Above none (events_of (accepted_rows empty (rows h)))
+pub numbers_rise : (h : History) → Above None (events_of (accepted_rows empty (rows h)))
 numbers_rise h = rw (accepted_events empty (rows h)) (accepted_rise empty (events_of (rows h)))
 
 -- 02, K6: "the row changing nothing": the strip is the one of the rows without it
@@ -94,10 +94,10 @@ read_twice h r = rows-twice (strip h) (taken_rows h.did.world) r
 -- ---- the strip and the sheet
 
 -- a sheet shows the front batch by reading its rows; those are the very rows that the strip reads, and no read is refused
-pub strip_and_sheet : (h : History) → Bytes h.slots → h.did.world.state.queued ≢ 0 → sheet h.did.world ≡ map (map some) (front_batch h.did.world)
+pub strip_and_sheet : (h : History) → Bytes h.slots → h.did.world.state.queued ≢ 0 → sheet h.did.world ≡ map (map Some) (front_batch h.did.world)
 strip_and_sheet h bytes q =
     sheet-shows h.did.world (between h) (over h (λ y. Bytes y.world.slots) (λ cs. last-bytes h.asked h.slots h.pool h.books h.begun bytes cs)) q
-    ∙ ap (map (map some)) (sym (batch-some h.did.world q))
+    ∙ ap (map (map Some)) (sym (batch-some h.did.world q))
 
 -- ---- 02, K6: "30, a batch of other columns": a history of a match never meets it
 

@@ -1,7 +1,7 @@
 -- The strip is the queue worked out from the rows that were taken.
 use Rattle.std.specs.Prelude.{ℕ, ◌≤◌, ◌<◌, ◌≡◌, ◌≢◌, true, List, [], ◌∷◌, map, length, get_or, drop}
 use Rattle.std.proofs.Common.{sym, ◌∙◌, ap}
-use Rattle.std.proofs.Math.Option.{none, some}
+use Rattle.std.specs.Prelude.{None, Some}
 use Rattle.words.specs.WordLaws.{Bytes}
 use Rattle.state.specs.Rows.{Row, taken_rows}
 use Rattle.invariant.specs.Holding.{Between}

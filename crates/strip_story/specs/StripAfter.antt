@@ -1,7 +1,7 @@
 -- The strip along batches, 02, K6: worked out batch by batch; which rows are accepted; the events that rows are; what a sheet shows of the front batch.
 use Rattle.std.specs.Prelude.{ℕ, Bool, ◌&&◌, cond, eqb}
 use mathlib.Core.List.{List, [], ◌∷◌, foldl}
-use Rattle.std.proofs.Math.Option.{Option}
+use Rattle.std.specs.Prelude.{Option}
 use Rattle.state.specs.World.{World}
 use Rattle.state.specs.Layout.{rows_in}
 use Rattle.state.specs.Rows.{Cell, Row, up_to, front_slot}

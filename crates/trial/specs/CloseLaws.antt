@@ -8,7 +8,6 @@ use Rattle.kinds.specs.Kind.{is_view}
 use Rattle.words.specs.FrameLaws.{framed_refl}
 use Rattle.state.specs.declared.BatchCoalescer.{BatchCoalescer}
 use Rattle.state.specs.declared.Column.{Column}
-use Rattle.state.specs.declared.OpenBlock.{OpenBlock}
 use Rattle.state.specs.World.{World, world, column_of, no_column}
 use Rattle.state.specs.Layout.{is_views, next_slot, list_length}
 use Rattle.rules.specs.Stays.{SameSetUp, same_refl, same_trans, same_counts, same-column, Kept}
@@ -26,10 +25,11 @@ use Rattle.trial_column.specs.ShutLaws.{not_number}
 use Rattle.trial_column.specs.Trying.{Trying, Tries}
 use Rattle.trial.specs.Tried.{TriesFinish, ClosesFirst}
 use Rattle.trial_column.specs.TryingLaws.{trying_roomy, tries_none}
+use Rattle.std.specs.Prelude.{None}
 
 -- ---- close_one and close_all
 
-pub close_views : (s : BatchCoalescer) (c : ℕ) {v : Bool} {k : Column} {t : BatchCoalescer} → v ≡ is_views s c → v ≡ true → k ≡ column_of s c → t ≡ with_column s c k.source OpenBlock.Closed → t ≡ closed_at s c
+pub close_views : (s : BatchCoalescer) (c : ℕ) {v : Bool} {k : Column} {t : BatchCoalescer} → v ≡ is_views s c → v ≡ true → k ≡ column_of s c → t ≡ with_column s c k.source None → t ≡ closed_at s c
 unfolding closed_at
 close_views s c p y e q = rw (← p, y, q, e)
 
@@ -58,29 +58,29 @@ unfolding closed_at
 closes_more {s} {t} c {u} a e = rw e (by_cond (λ (v : BatchCoalescer). ClosesFirst s v (c + 1)) (is_views t c) views other)
   where
     v : BatchCoalescer
-    v = with_column t c (column_of t c).source OpenBlock.Closed
+    v = with_column t c (column_of t c).source None
 
     views : is_views t c ≡ true → ClosesFirst s v (c + 1)
     views y =
         record {
-          set_up = same_trans a.set_up (same-column t c (column_of t c).source OpenBlock.Closed);
+          set_up = same_trans a.set_up (same-column t c (column_of t c).source None);
           place = a.place;
           queued = a.queued;
           buffered = a.buffered;
           source = λ d.
-              column_cases t c (column_of t c).source OpenBlock.Closed d (λ (x : Column). x.source ≡ (column_of s d).source)
+              column_cases t c (column_of t c).source None d (λ (x : Column). x.source ≡ (column_of s d).source)
               (λ q. rw q (a.source c))
               (a.source d);
           shut = λ d l z. at d l z (dec_lt d c);
         }
       where
-        at : (d : ℕ) → d < c + 1 → is_views s d ≡ true → Dec (d < c) → (column_of v d).block ≡ OpenBlock.Closed
+        at : (d : ℕ) → d < c + 1 → is_views s d ≡ true → Dec (d < c) → (column_of v d).block ≡ None
         at d l z (yes m) =
-            column_cases t c (column_of t c).source OpenBlock.Closed d (λ (x : Column). x.block ≡ OpenBlock.Closed) (λ q. refl)
+            column_cases t c (column_of t c).source None d (λ (x : Column). x.block ≡ None) (λ q. refl)
             (a.shut d m z)
         at d l z (no m) =
             let q : d ≡ c = omega arith in
-            rw q (ap (λ (x : Column). x.block) (column-new t c (column_of t c).source OpenBlock.Closed y))
+            rw q (ap (λ (x : Column). x.block) (column-new t c (column_of t c).source None y))
 
     other : is_views t c ≡ false → ClosesFirst s t (c + 1)
     other y =
@@ -93,7 +93,7 @@ closes_more {s} {t} c {u} a e = rw e (by_cond (λ (v : BatchCoalescer). ClosesFi
           shut = λ d l z. at d l z (dec_lt d c);
         }
       where
-        at : (d : ℕ) → d < c + 1 → is_views s d ≡ true → Dec (d < c) → (column_of t d).block ≡ OpenBlock.Closed
+        at : (d : ℕ) → d < c + 1 → is_views s d ≡ true → Dec (d < c) → (column_of t d).block ≡ None
         at d l z (yes m) = a.shut d m z
         at d l z (no m) =
             let q : d ≡ c = omega arith in
@@ -129,7 +129,7 @@ module _ {s t : BatchCoalescer} {books : List ℕ} (x : Trying s books) (a : Clo
   unfolding column_of
   column c = refl
 
-  shut_at : (c : ℕ) → c < s.columns → is_views s c ≡ true → (column_of u c).block ≡ OpenBlock.Closed
+  shut_at : (c : ℕ) → c < s.columns → is_views s c ≡ true → (column_of u c).block ≡ None
   shut_at c h y = ap (λ (k : Column). k.block) (column c) ∙ a.shut c h y
 
   list : (slot c : ℕ) → list_length v slot c ≡ list_length w slot c

@@ -1,7 +1,6 @@
 -- What the steps of a trial leave, and what they read of the batch.
 use Rattle.std.specs.Prelude.{ℕ, ◌+◌, ◌*◌, ◌≤◌, ◌<◌, ◌≡◌, true, List, length, get_or}
 use Rattle.state.specs.declared.BatchCoalescer.{BatchCoalescer}
-use Rattle.state.specs.declared.OpenBlock.{OpenBlock}
 use Rattle.state.specs.World.{column_of}
 use Rattle.state.specs.Layout.{is_views}
 use Rattle.rules.specs.declared.Way.{Way}
@@ -11,6 +10,7 @@ use Rattle.rules.specs.declared.Step.{Step}
 use Rattle.routes.specs.declared.Sources.{Sources}
 use Rattle.routes.specs.Sourced.{no_source}
 use Rattle.trial_column.specs.Trying.{Trying, Tries}
+use Rattle.std.specs.Prelude.{None}
 
 -- a part of n rows: they are buffered where it is not refused
 pub record TriesPart (s : BatchCoalescer) (books : List ℕ) (n : ℕ) (r : Step) (books' : List ℕ) : Type 0 where
@@ -34,7 +34,7 @@ pub record ClosesFirst (s t : BatchCoalescer) (n : ℕ) : Type 0 where
   pub queued : t.queued ≡ s.queued
   pub buffered : t.buffered.0 ≡ s.buffered.0
   pub source : (c : ℕ) → (column_of t c).source ≡ (column_of s c).source
-  pub shut : (c : ℕ) → c < n → is_views s c ≡ true → (column_of t c).block ≡ OpenBlock.Closed
+  pub shut : (c : ℕ) → c < n → is_views s c ≡ true → (column_of t c).block ≡ None
 
 -- ---- the batch
 

@@ -18,7 +18,7 @@ ghost use Rattle.trial.specs.Tried.{TriesPart, TriesThen, TriesFinish, ClosesFir
 use counts::RowCount;
 use routes::{Route, Sources};
 use rules::{Step, Way};
-use state::{BatchCoalescer, OpenBlock};
+use state::BatchCoalescer;
 
 // copy_rows on trial of every column: n rows from `from` on, which are then buffered.
 fn try_part(
@@ -71,7 +71,7 @@ fn close_one(s: BatchCoalescer, c: u32) -> BatchCoalescer
 {
     if layout::is_views(s, c) {
         let source = layout::column_of(s, c).source;
-        columns::with_column(s, c, source, OpenBlock::Closed)
+        columns::with_column(s, c, source, None)
     } else {
         s
     }

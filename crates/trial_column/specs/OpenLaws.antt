@@ -14,14 +14,12 @@ use Rattle.pool.specs.Register.{is_held}
 use Rattle.sound.specs.Change.{Changed}
 use Rattle.sound.specs.OpLaws.{changed_roomy, taken-changed, used_taken}
 use Rattle.room.specs.declared.Room.{Room}
-use Rattle.room.specs.declared.Chosen.{Chosen}
 use Rattle.room.specs.Room.{block_room, entry_at, taken_for, opened_as, tried, Opens}
 use Rattle.room.specs.RoomLaws.{Found-room, ZeroRoom, room_says, block_says}
 use Rattle.room.specs.Back.{Tried}
 use Rattle.room.proofs.BackLaws.{tried-answer, taken-tried}
 use Rattle.state.specs.declared.BatchCoalescer.{BatchCoalescer}
 use Rattle.state.specs.declared.Column.{Column}
-use Rattle.state.specs.declared.OpenBlock.{OpenBlock}
 use Rattle.state.specs.World.{World, world, column_of}
 use Rattle.state.specs.Layout.{is_views, list_length}
 use Rattle.rules.specs.Stays.{same_refl, same-column}
@@ -36,6 +34,7 @@ use Rattle.push_safety.specs.CallerLaws.{run_bounds}
 use Rattle.trial_truth.specs.Like.{size_for, Took, Buffers}
 use Rattle.trial_column.specs.Trying.{Trying, TriesColumn, Bufferable}
 use Rattle.trial_column.specs.TryingLaws.{column-none}
+use Rattle.std.specs.Prelude.{Some, Result, Ok, Err}
 
 -- ---- the books
 
@@ -143,19 +142,19 @@ module _ {s : BatchCoalescer} {books : List ℕ} (x : Trying s books) (c : ℕ) 
         list_same s x.slots x.pool books c s.place,
       )
 
-  opens : TriesColumn s books (with_column s c source (OpenBlock.Number room.number)) booked
+  opens : TriesColumn s books (with_column s c source (Some room.number)) booked
   opens =
       record {
         tries =
             record {
-              set_up = same-column s c source (OpenBlock.Number room.number);
+              set_up = same-column s c source (Some room.number);
               marks = marks;
               trying =
                   record {
                     slots = x.slots;
                     pool = x.pool;
                     run =
-                        (with_column_goes c source (OpenBlock.Number room.number) go.run (λ p q. some)
+                        (with_column_goes c source (Some room.number) go.run (λ p q. some)
                         (λ k q.
                         let e : room.number ≡ k = cc in
                         (rw (← e) (taken_in room.number.0 (entry_at room.start size 0 2 0) (run_firm x.run).books f.number.below), list))).run;
@@ -166,19 +165,19 @@ module _ {s : BatchCoalescer} {books : List ℕ} (x : Trying s books) (c : ℕ) 
 
 -- ---- the ways out of try_buffer
 
-answer_at : (s : List ℕ) (n pool capacity : ℕ) {r : Chosen} {t : List ℕ} {room : Room} → Opens (tried s n pool capacity) t r → r ≡ Chosen.At room → (block_room s n pool capacity ≡ Chosen.At room) × (t ≡ taken s room.number.0 (entry_at room.start capacity 0 2 0))
+answer_at : (s : List ℕ) (n pool capacity : ℕ) {r : Result Room ℕ} {t : List ℕ} {room : Room} → Opens (tried s n pool capacity) t r → r ≡ Ok room → (block_room s n pool capacity ≡ Ok room) × (t ≡ taken s room.number.0 (entry_at room.start capacity 0 2 0))
 unfolding tried opened_as
 answer_at s n pool capacity {r} {t} {room} o e =
-    let q : block_room s n pool capacity ≡ Chosen.At room = sym (tried-answer s n pool capacity) ∙ sym o.answer_is ∙ e in
-    (q, o.books_are ∙ ap (λ (a : Chosen). (taken_for s capacity 2 0 a).books) q)
+    let q : block_room s n pool capacity ≡ Ok room = sym (tried-answer s n pool capacity) ∙ sym o.answer_is ∙ e in
+    (q, o.books_are ∙ ap (λ (a : Result Room ℕ). (taken_for s capacity 2 0 a).books) q)
 
-answer_not : (s : List ℕ) (n pool capacity : ℕ) {r : Chosen} {t : List ℕ} {number : ℕ} → Opens (tried s n pool capacity) t r → r ≡ Chosen.Refused number → t ≡ s
+answer_not : (s : List ℕ) (n pool capacity : ℕ) {r : Result Room ℕ} {t : List ℕ} {number : ℕ} → Opens (tried s n pool capacity) t r → r ≡ Err number → t ≡ s
 unfolding tried opened_as
 answer_not s n pool capacity {r} {t} {number} o e =
-    let q : block_room s n pool capacity ≡ Chosen.Refused number = sym (tried-answer s n pool capacity) ∙ sym o.answer_is ∙ e in
-    o.books_are ∙ ap (λ (a : Chosen). (taken_for s capacity 2 0 a).books) q
+    let q : block_room s n pool capacity ≡ Err number = sym (tried-answer s n pool capacity) ∙ sym o.answer_is ∙ e in
+    o.books_are ∙ ap (λ (a : Result Room ℕ). (taken_for s capacity 2 0 a).books) q
 
-pub buffer_refused : {s : BatchCoalescer} {books : List ℕ} (size : ℕ) {r : Chosen} {t : List ℕ} {number : ℕ} → Trying s books → Opens (tried books s.numbers s.pool.0 size) t r → r ≡ Chosen.Refused number → TriesColumn s books s t
+pub buffer_refused : {s : BatchCoalescer} {books : List ℕ} (size : ℕ) {r : Result Room ℕ} {t : List ℕ} {number : ℕ} → Trying s books → Opens (tried books s.numbers s.pool.0 size) t r → r ≡ Err number → TriesColumn s books s t
 buffer_refused {s} {books} size x o e = rw (answer_not books s.numbers s.pool.0 size o e) (column-none x)
 
 pub buffers_full : {s : BatchCoalescer} {books : List ℕ} (c n min : ℕ) → s.lists ≤ n → Buffers s books c n min (record { state = s; number = 10 }) books
@@ -197,7 +196,7 @@ module _ (s : BatchCoalescer) (books : List ℕ) (c n : ℕ) (min : ByteSum) {k 
   size-at = ap (λ (x : NextSize). x.size.0) asked-at
 
   -- state and books stay in order
-  pub buffer_opened : {r : Chosen} {t : List ℕ} {room : Room} {v : BatchCoalescer} → Bufferable s books c n → Opens (tried books s.numbers s.pool.0 a.size.0) t r → r ≡ Chosen.At room → v ≡ with_column s c a.source (OpenBlock.Number room.number) → TriesColumn s books v t
+  pub buffer_opened : {r : Result Room ℕ} {t : List ℕ} {room : Room} {v : BatchCoalescer} → Bufferable s books c n → Opens (tried books s.numbers s.pool.0 a.size.0) t r → r ≡ Ok room → v ≡ with_column s c a.source (Some room.number) → TriesColumn s books v t
   buffer_opened {r} {t} {room} {v} x o g e' =
       let b = answer_at books s.numbers s.pool.0 a.size.0 o g in
       let z : ZeroRoom books s.numbers s.pool.0 a.size.0 room = block_says books s.numbers s.pool.0 a.size.0 room b.0 in
@@ -206,30 +205,30 @@ module _ (s : BatchCoalescer) (books : List ℕ) (c n : ℕ) (min : ByteSum) {k 
       (opens x.trying c x.column x.views (omega (arith, x.most)) a.source some a.size.0 room (room_says books s.numbers s.pool.0 a.size.0 room z.chooses) z.zero)
 
   -- and as the push sees them
-  pub buffers_refused : {r : Chosen} {t : List ℕ} {number : ℕ} → Opens (tried books s.numbers s.pool.0 a.size.0) t r → r ≡ Chosen.Refused number → Buffers s books c n min.0 (record { state = s; number = number }) t
+  pub buffers_refused : {r : Result Room ℕ} {t : List ℕ} {number : ℕ} → Opens (tried books s.numbers s.pool.0 a.size.0) t r → r ≡ Err number → Buffers s books c n min.0 (record { state = s; number = number }) t
   buffers_refused {r} {t} {number} o g =
       record {
         full = λ h. absurd (omega arith);
-        refused = λ h m z. let p : Chosen.Refused number ≡ Chosen.Refused m = sym says ∙ z in cc;
-        opened = λ h room z. let p : Chosen.Refused number ≡ Chosen.At room = sym says ∙ z in let i : ◌≡◌ {A = ℕ} 0 1 = cc in absurd (omega arith);
+        refused = λ h m z. let p : Err number ≡ Err m = sym says ∙ z in cc;
+        opened = λ h room z. let p : Err number ≡ Ok room = sym says ∙ z in let i : ◌≡◌ {A = ℕ} 0 1 = cc in absurd (omega arith);
       }
     where
-      says : block_room books s.numbers s.pool.0 (size_for s c min.0) ≡ Chosen.Refused number
+      says : block_room books s.numbers s.pool.0 (size_for s c min.0) ≡ Err number
       says = rw (← size-at) (sym (tried-answer books s.numbers s.pool.0 a.size.0) ∙ sym o.answer_is ∙ g)
 
-  pub buffers_opened : {r : Chosen} {t : List ℕ} {room : Room} {v : BatchCoalescer} → Opens (tried books s.numbers s.pool.0 a.size.0) t r → r ≡ Chosen.At room → v ≡ with_column s c a.source (OpenBlock.Number room.number) → Buffers s books c n min.0 (record { state = v; number = 0 }) t
+  pub buffers_opened : {r : Result Room ℕ} {t : List ℕ} {room : Room} {v : BatchCoalescer} → Opens (tried books s.numbers s.pool.0 a.size.0) t r → r ≡ Ok room → v ≡ with_column s c a.source (Some room.number) → Buffers s books c n min.0 (record { state = v; number = 0 }) t
   buffers_opened {r} {t} {room} {v} o g x =
       record {
         full = λ h. absurd (omega arith);
-        refused = λ h m z. let p : Chosen.At room ≡ Chosen.Refused m = sym says ∙ z in let i : ◌≡◌ {A = ℕ} 0 1 = cc in absurd (omega arith);
-        opened = λ h room' z. let p : Chosen.At room ≡ Chosen.At room' = sym says ∙ z in let i : room ≡ room' = cc in rw (← i) took;
+        refused = λ h m z. let p : Ok room ≡ Err m = sym says ∙ z in let i : ◌≡◌ {A = ℕ} 0 1 = cc in absurd (omega arith);
+        opened = λ h room' z. let p : Ok room ≡ Ok room' = sym says ∙ z in let i : room ≡ room' = cc in rw (← i) took;
       }
     where
-      b : (block_room books s.numbers s.pool.0 a.size.0 ≡ Chosen.At room) × (t ≡ taken books room.number.0 (entry_at room.start a.size.0 0 2 0))
+      b : (block_room books s.numbers s.pool.0 a.size.0 ≡ Ok room) × (t ≡ taken books room.number.0 (entry_at room.start a.size.0 0 2 0))
       b = answer_at books s.numbers s.pool.0 a.size.0 o g
 
-      says : block_room books s.numbers s.pool.0 (size_for s c min.0) ≡ Chosen.At room
+      says : block_room books s.numbers s.pool.0 (size_for s c min.0) ≡ Ok room
       says = rw (← size-at) b.0
 
       took : Took s books c min.0 room (record { state = v; number = 0 }) t
-      took = record { number = refl; state = x ∙ ap (λ (y : NextSize). with_column s c y.source (OpenBlock.Number room.number)) asked-at; books_are = rw (← size-at) b.1 }
+      took = record { number = refl; state = x ∙ ap (λ (y : NextSize). with_column s c y.source (Some room.number)) asked-at; books_are = rw (← size-at) b.1 }

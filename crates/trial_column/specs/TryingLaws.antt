@@ -8,7 +8,6 @@ use Rattle.sound.specs.Change.{Roomy}
 use Rattle.room.proofs.BackLaws.{tried-none, tried_trans}
 use Rattle.state.specs.declared.BatchCoalescer.{BatchCoalescer}
 use Rattle.state.specs.declared.Column.{Column}
-use Rattle.state.specs.declared.OpenBlock.{OpenBlock}
 use Rattle.state.specs.World.{world, column_of}
 use Rattle.state.specs.Layout.{is_views, slots_length, books_length, list_length}
 use Rattle.layout.specs.Few.{Few}
@@ -22,6 +21,7 @@ use Rattle.push_safety.specs.TestedLaws.{Bounds}
 use Rattle.push_safety.specs.Firm.{run_firm}
 use Rattle.push_safety.specs.CallerLaws.{run_bounds, entries_room, entry_room}
 use Rattle.trial_column.specs.Trying.{Trying, Tries, TriesColumn}
+use Rattle.std.specs.Prelude.{Some}
 
 -- a state in order whatever slots and pool are beside it is in order beside some
 pub running_trying : {s : BatchCoalescer} {books : List ℕ} → Running s books → Trying s books
@@ -64,7 +64,7 @@ module _ {s : BatchCoalescer} {books : List ℕ} (x : Trying s books) where
     pub trying_size : {k : Column} → is_views s c ≡ true → k ≡ column_of s c → 1 ≤ k.source.current.0
     trying_size y e = rw e (x.run.kept c h y)
 
-    pub trying_block : {k : Column} {j : BufferNumber} → is_views s c ≡ true → k ≡ column_of s c → k.block ≡ OpenBlock.Number j → 24 + 20 * j.0 ≤ length books
+    pub trying_block : {k : Column} {j : BufferNumber} → is_views s c ≡ true → k ≡ column_of s c → k.block ≡ Some j → 24 + 20 * j.0 ≤ length books
     trying_block {k} {j} y e o =
         entry_room x.run j.0 (x.run.block c j h y (ap (λ (z : Column). z.block) (sym e) ∙ o))
 

@@ -9,9 +9,8 @@ ghost use Rattle.trial_column.specs.Trying.{Trying, TriesColumn, Bufferable, Com
 
 use byte_view::Source;
 use counts::{ByteSum, RowCount};
-use room::Chosen;
 use rules::{ColumnRecord, Step, Way};
-use state::{BatchCoalescer, OpenBlock};
+use state::BatchCoalescer;
 
 // next_buffer on trial, where the list has n numbers: 10, then 11 and 12.
 fn try_buffer(s: BatchCoalescer, books: &mut [u8], c: u32, n: u32, min: ByteSum) -> Step
@@ -26,11 +25,11 @@ fn try_buffer(s: BatchCoalescer, books: &mut [u8], c: u32, n: u32, min: ByteSum)
         let size = next.size;
         let chosen = making_room::try_block(books, s.numbers, s.pool, size);
         match chosen {
-            Chosen::Refused(number) => Step { state: s, number },
-            Chosen::At(r) => {
+            Err(number) => Step { state: s, number },
+            Ok(r) => {
                 let kept = next.source;
                 let number = r.number;
-                let t = columns::with_column(s, c, kept, OpenBlock::Number(number));
+                let t = columns::with_column(s, c, kept, Some(number));
                 Step {
                     state: t,
                     number: 0,
@@ -64,8 +63,8 @@ fn try_compact(
     let list = columns::list_closed(s, books, c);
     let block = layout::column_of(s, c).block;
     match block {
-        OpenBlock::Closed => try_buffer(s, books, c, list, ideal),
-        OpenBlock::Number(k) => {
+        None => try_buffer(s, books, c, list, ideal),
+        Some(k) => {
             let rest = columns::rest_of(books, k);
             if ideal.0 <= rest.0 {
                 Step {
@@ -89,7 +88,7 @@ fn try_attach(s: BatchCoalescer, books: &[u8], r: ColumnRecord, c: u32) -> Step
     let n = columns::list_closed(s, books, c);
     if (n as u64) + (r.count as u64) <= (s.lists as u64) {
         let source = layout::column_of(s, c).source;
-        let t = columns::with_column(s, c, source, OpenBlock::Closed);
+        let t = columns::with_column(s, c, source, None);
         Step {
             state: t,
             number: 0,

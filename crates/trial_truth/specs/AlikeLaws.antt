@@ -20,11 +20,12 @@ use Rattle.tallies.specs.declared.Tally.{Tally}
 use Rattle.tallies.specs.Tally.{with_tally}
 use Rattle.tallies.specs.TallyLaws.{entry-with_tally, used_with_tally}
 use Rattle.pool.specs.Register.{is_held}
-use Rattle.room.specs.declared.Chosen.{Chosen}
 use Rattle.room.specs.Room.{chosen, if_zero, block_room}
 use Rattle.room.specs.RoomLaws.{room_says}
 use Rattle.push_safety.specs.BooksGo.{BooksRun, BooksGo, held_says, length_at, over_go}
 use Rattle.trial_truth.specs.Alike.{Alike}
+use Rattle.std.specs.Prelude.{Result, Ok, Err}
+use Rattle.room.specs.declared.Room.{Room}
 
 -- the same numbers are free
 module _ (s t : List ℕ) (u : used_of t ≡ used_of s) (f : (k : ℕ) → k < used_of s → is_free (entry_of t k) ≡ is_free (entry_of s k)) where
@@ -93,9 +94,9 @@ module _ {s t : List ℕ} {m : ℕ} (a : Alike s t m) where
   unfolding block_room
   alike_room pool size = rw (alike_chosen m pool size) (go (chosen s m pool size) refl)
     where
-      go : (c : Chosen) → chosen s m pool size ≡ c → if_zero t c ≡ if_zero s c
-      go (Chosen.Refused number) e = refl
-      go (Chosen.At r) e =
+      go : (c : Result Room ℕ) → chosen s m pool size ≡ c → if_zero t c ≡ if_zero s c
+      go (Err number) e = refl
+      go (Ok r) e =
           let f = (room_says s m pool size r e).number in
           rw (a.vacant r.number.0 f.below f.accepted)
 

@@ -3,7 +3,6 @@ use Rattle.std.specs.Prelude.{ℕ, ◌+◌, ◌-◌, ◌≤◌, ◌<◌, ◌≡�
 use Rattle.std.proofs.Common.{◌∙◌, ap, arith}
 use Rattle.state.specs.declared.BatchCoalescer.{BatchCoalescer}
 use Rattle.state.specs.declared.Column.{Column}
-use Rattle.state.specs.declared.OpenBlock.{OpenBlock}
 use Rattle.state.specs.World.{World, world, column_of}
 use Rattle.state.specs.Layout.{is_views, list_length}
 use Rattle.rules.specs.declared.ColumnRecord.{ColumnRecord}
@@ -18,6 +17,7 @@ use Rattle.columns.specs.SourceLaws.{closed-length}
 use Rattle.trial_truth.specs.Like.{Like, Follows}
 use Rattle.trial_truth.specs.LikeLaws.{column_other, closed_state, like_state, like_moves, here_untouched}
 use Rattle.trial_truth.specs.MoveLaws.{attach_moves, attach_state}
+use Rattle.std.specs.Prelude.{None}
 
 -- ---- the list of a column that has not had its part
 
@@ -44,7 +44,7 @@ module _ {s : BatchCoalescer} {books : List ℕ} {b : Batch} {c : ℕ} {v : Worl
     joined : n + r.count ≡ list_length (closed v c) (filling v) c + (record_of b c).count
     joined = rw (q, closed_at_lem, closed-length a.run c in_world views_in, p)
 
-    pub attached_follows : {k : Column} {t : BatchCoalescer} → n + r.count ≤ s.lists → k ≡ column_of s c → t ≡ with_column s c k.source OpenBlock.Closed → Follows (part_attached v b (span c at from m)) b (c + 1) (record { state = t; number = 0 }) books
+    pub attached_follows : {k : Column} {t : BatchCoalescer} → n + r.count ≤ s.lists → k ≡ column_of s c → t ≡ with_column s c k.source None → Follows (part_attached v b (span c at from m)) b (c + 1) (record { state = t; number = 0 }) books
     attached_follows {k} {t} l x z =
         record {
           done = λ o.
@@ -56,10 +56,10 @@ module _ {s : BatchCoalescer} {books : List ℕ} {b : Batch} {c : ℕ} {v : Worl
                     rw (z, x)
                     (like_state
                     (like_moves a (attach_moves v b c at from m a.run a.reads in_world views_in fits) h y column-at)
-                    (same-column s c (column_of s c).source OpenBlock.Closed)
+                    (same-column s c (column_of s c).source None)
                     refl
                     refl
-                    (λ d g. column_other s c (column_of s c).source OpenBlock.Closed d (λ i. omega arith)));
+                    (λ d g. column_other s c (column_of s c).source None d (λ i. omega arith)));
               };
           not = λ o. absurd (o refl);
         }

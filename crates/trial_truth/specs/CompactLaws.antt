@@ -9,7 +9,6 @@ use Rattle.books.specs.Entry.{entry_of, is_free}
 use Rattle.sound.specs.Change.{Roomy}
 use Rattle.state.specs.declared.BatchCoalescer.{BatchCoalescer}
 use Rattle.state.specs.declared.Column.{Column}
-use Rattle.state.specs.declared.OpenBlock.{OpenBlock}
 use Rattle.state.specs.World.{World, world, column_of}
 use Rattle.state.specs.Layout.{is_views, list_length}
 use Rattle.rules.specs.Batch.{Batch, ideal}
@@ -27,6 +26,7 @@ use Rattle.trial_truth.specs.LikeLaws.{column-twice, closed_state, like_more, li
 use Rattle.trial_truth.specs.MoveLaws.{moves_trans, views_make, closed_moves}
 use Rattle.trial_truth.specs.OpenLaws.{open_follows}
 use Rattle.trial_truth.specs.ColumnLaws.{in_world, views_in, column-at, closed_at_lem}
+use Rattle.std.specs.Prelude.{Option, Some, None}
 
 closed_as : (w v : World) (c : ℕ) → column_of w.state c ≡ column_of v.state c → list_length w (filling w) c ≡ list_length v (filling v) c → closed_length w c ≡ closed_length v c
 unfolding closed_length
@@ -39,7 +39,7 @@ module _ {s : BatchCoalescer} {books : List ℕ} {b : Batch} {c : ℕ} {v : Worl
   abbrev y' : is_views v.state c ≡ true
   y' = views_in a e h y
 
-  open_is : {o : OpenBlock} → (column_of s c).block ≡ o → is_open v c ≡ has_block o
+  open_is : {o : Option BufferNumber} → (column_of s c).block ≡ o → is_open v c ≡ has_block o
   open_is q = ap has_block (ap (λ (x : Column). x.block) (column-at a e h y) ∙ q)
 
   -- ---- no block is open
@@ -52,7 +52,7 @@ module _ {s : BatchCoalescer} {books : List ℕ} {b : Batch} {c : ℕ} {v : Worl
   unfolding part_compacted
   opens-new o = rw o
 
-  pub new_follows : {n : ℕ} {q : Step} {books' : List ℕ} → (column_of s c).block ≡ OpenBlock.Closed → n ≡ closed_length (world s [] [] books) c → Buffers s books c n (ideal v b c) q books' → Follows (part_compacted v b (span c at from m)) b (c + 1) q books'
+  pub new_follows : {n : ℕ} {q : Step} {books' : List ℕ} → (column_of s c).block ≡ None → n ≡ closed_length (world s [] [] books) c → Buffers s books c n (ideal v b c) q books' → Follows (part_compacted v b (span c at from m)) b (c + 1) q books'
   new_follows {n} {q} {books'} z p t =
       rw (opens-new o)
       (open_follows
@@ -73,7 +73,7 @@ module _ {s : BatchCoalescer} {books : List ℕ} {b : Batch} {c : ℕ} {v : Worl
 
   -- ---- a block is open
 
-  module _ {k : BufferNumber} (z : (column_of s c).block ≡ OpenBlock.Number k) {rest : ℕ} (g : rest ≡ (entry_of books k.0).capacity.0 - (entry_of books k.0).length.0) where
+  module _ {k : BufferNumber} (z : (column_of s c).block ≡ Some k) {rest : ℕ} (g : rest ≡ (entry_of books k.0).capacity.0 - (entry_of books k.0).length.0) where
     abbrev o : is_open v c ≡ true
     o = open_is z
 
@@ -144,17 +144,17 @@ module _ {s : BatchCoalescer} {books : List ℕ} {b : Batch} {c : ℕ} {v : Worl
     like : Like s books b (c + 1) u
     like = like_moves a (moves_trans first.moves shuts) h y (column-at a e h y)
 
-    state : u.state ≡ with_column s c (column_of s c).source OpenBlock.Closed
-    state = closed_state w c ∙ ap (λ (x : BatchCoalescer). with_column x c (column_of x c).source OpenBlock.Closed) (first.state ∙ e)
+    state : u.state ≡ with_column s c (column_of s c).source None
+    state = closed_state w c ∙ ap (λ (x : BatchCoalescer). with_column x c (column_of x c).source None) (first.state ∙ e)
 
     source-at : (column_of u.state c).source ≡ (column_of s c).source
     source-at =
         ap (λ (x : BatchCoalescer). (column_of x c).source) state
-        ∙ ap (λ (x : Column). x.source) (column-new s c (column_of s c).source OpenBlock.Closed y)
+        ∙ ap (λ (x : Column). x.source) (column-new s c (column_of s c).source None y)
 
-    put-at : (source : BufferSource) (block : OpenBlock) → with_column u.state c source block ≡ with_column s c source block
+    put-at : (source : BufferSource) (block : Option BufferNumber) → with_column u.state c source block ≡ with_column s c source block
     put-at source block =
-        ap (λ (x : BatchCoalescer). with_column x c source block) state ∙ column-twice s c (column_of s c).source source OpenBlock.Closed block
+        ap (λ (x : BatchCoalescer). with_column x c source block) state ∙ column-twice s c (column_of s c).source source None block
 
     behind : long_before u b c (from + j) (m - j) ≤ ideal v b c - long_before v b c from j
     behind =

@@ -6,7 +6,6 @@ use Rattle.std.proofs.lemmas.Bool.{lt-leb}
 use Rattle.books.specs.Entry.{used_of}
 use Rattle.counts.specs.declared.BufferNumber.{BufferNumber}
 use Rattle.state.specs.declared.BatchCoalescer.{BatchCoalescer}
-use Rattle.state.specs.declared.OpenBlock.{OpenBlock}
 use Rattle.state.specs.World.{World, column_of}
 use Rattle.state.specs.Layout.{is_views, tally, list_length, next_slot}
 use Rattle.rules.specs.Batch.{Batch}
@@ -28,6 +27,7 @@ use Rattle.trial_truth.specs.Like.{ColumnOpens, Untouched, Like, ColumnMoves}
 use Rattle.trial_truth.specs.LikeLaws.{closed_state, lists_of}
 use Rattle.trial_truth.specs.MoveLaws.{closed_moves}
 use Rattle.trial_truth.specs.Tells.{closed_at, closed_to, TellsFinished}
+use Rattle.std.specs.Prelude.{Some, None}
 
 -- ---- every block closed
 
@@ -187,12 +187,12 @@ module _ {s : BatchCoalescer} {books : List ℕ} {b : Batch} {m : ℕ} {v : Worl
         ap (λ (x : BatchCoalescer). x.queued + 1) (sym closed_is)
         ∙ ap (λ (n : ℕ). n + 1) (shut.along.beside.queued ∙ a.queued)
 
-    not_number : (k : BufferNumber) → OpenBlock.Closed ≡ OpenBlock.Number k → ⊥
+    not_number : (k : BufferNumber) → None ≡ Some k → ⊥
     not_number k q = let z : ◌≡◌ {A = ℕ} 0 1 = cc in omega arith
 
     none_open : (c k : ℕ) → ColumnOpens t c k → ⊥
     none_open c k o =
-        let g : (column_of u.state c).block ≡ OpenBlock.Closed = (ends.shut some').shut c (rw state o.column) (rw state o.views) in
+        let g : (column_of u.state c).block ≡ None = (ends.shut some').shut c (rw state o.column) (rw state o.views) in
         not_number (record { 0 = k }) (sym (rw state at g) ∙ o.block)
 
     like : Like t books b 0 u

@@ -4,10 +4,8 @@ use Rattle.books.specs.Entry.{used_of, entry_of, is_free}
 use Rattle.blocks.specs.Block.{asked}
 use Rattle.listings.specs.Listing.{taken}
 use Rattle.room.specs.declared.Room.{Room}
-use Rattle.room.specs.declared.Chosen.{Chosen}
 use Rattle.room.specs.Room.{block_room, entry_at}
 use Rattle.state.specs.declared.BatchCoalescer.{BatchCoalescer}
-use Rattle.state.specs.declared.OpenBlock.{OpenBlock}
 use Rattle.state.specs.World.{World, world, column_of}
 use Rattle.state.specs.Layout.{is_views, list_length}
 use Rattle.rules.specs.declared.ColumnRecord.{ColumnRecord}
@@ -21,6 +19,7 @@ use Rattle.rules.specs.declared.Step.{Step}
 use Rattle.push_safety.specs.Run.{Run, Readable}
 use Rattle.push_safety.specs.Along.{Along}
 use Rattle.trial_truth.specs.Alike.{Alike}
+use Rattle.std.specs.Prelude.{Some, Ok, Err}
 
 -- the number that a result refuses with, and 0 where it does not
 abbrev pub number_of : Res → ℕ
@@ -31,7 +30,7 @@ number_of (refuse number) = number
 pub record ColumnOpens (s : BatchCoalescer) (c k : ℕ) : Type 0 where
   pub column : c < s.columns
   pub views : is_views s c ≡ true
-  pub block : (column_of s c).block ≡ OpenBlock.Number (record { 0 = k })
+  pub block : (column_of s c).block ≡ Some (record { 0 = k })
 
 -- an open block is a buffer in use, and no two columns have the same. Every history leaves them so: `between-orderly`, in crates/promise
 pub record OwnBlocks (s : BatchCoalescer) (books : List ℕ) : Type 0 where
@@ -75,8 +74,8 @@ pub record ColumnMoves (c : ℕ) (v v' : World) : Type 0 where
   pub along : Along v v'
   pub alike : Alike v.books v'.books v.state.numbers
   pub lists : (slot d : ℕ) → d < v.state.columns → (slot ≡ v.state.place → d ≢ c) → list_length v' slot d ≡ list_length v slot d
-  pub length : (k : ℕ) → k < used_of v.books → ((column_of v.state c).block ≡ OpenBlock.Number (record { 0 = k }) → ⊥) → (entry_of v'.books k).length.0 ≡ (entry_of v.books k).length.0
-  pub block : (k : ℕ) → (column_of v'.state c).block ≡ OpenBlock.Number (record { 0 = k }) → (column_of v.state c).block ≡ OpenBlock.Number (record { 0 = k })
+  pub length : (k : ℕ) → k < used_of v.books → ((column_of v.state c).block ≡ Some (record { 0 = k }) → ⊥) → (entry_of v'.books k).length.0 ≡ (entry_of v.books k).length.0
+  pub block : (k : ℕ) → (column_of v'.state c).block ≡ Some (record { 0 = k }) → (column_of v.state c).block ≡ Some (record { 0 = k })
 
 -- a step that nothing refuses, and that leaves state and lists
 pub record LeavesLists (c : ℕ) (v : World) (x : Res) : Type 0 where
@@ -95,14 +94,14 @@ size_for s c min = (asked (column_of s c).source (record { 0 = min })).size.0
 -- what try_buffer leaves where there is room: the block, marked
 pub record Took (s : BatchCoalescer) (books : List ℕ) (c min : ℕ) (room : Room) (q : Step) (books' : List ℕ) : Type 0 where
   pub number : q.number ≡ 0
-  pub state : q.state ≡ with_column s c (asked (column_of s c).source (record { 0 = min })).source (OpenBlock.Number room.number)
+  pub state : q.state ≡ with_column s c (asked (column_of s c).source (record { 0 = min })).source (Some room.number)
   pub books_are : books' ≡ taken books room.number.0 (entry_at room.start (size_for s c min) 0 2 0)
 
 -- 10 where the list of n numbers is full; else as is chosen
 pub record Buffers (s : BatchCoalescer) (books : List ℕ) (c n min : ℕ) (q : Step) (books' : List ℕ) : Type 0 where
   pub full : s.lists ≤ n → q.number ≡ 10
-  pub refused : n < s.lists → (number : ℕ) → block_room books s.numbers s.pool.0 (size_for s c min) ≡ Chosen.Refused number → q.number ≡ number
-  pub opened : n < s.lists → (room : Room) → block_room books s.numbers s.pool.0 (size_for s c min) ≡ Chosen.At room → Took s books c min room q books'
+  pub refused : n < s.lists → (number : ℕ) → block_room books s.numbers s.pool.0 (size_for s c min) ≡ Err number → q.number ≡ number
+  pub opened : n < s.lists → (room : Room) → block_room books s.numbers s.pool.0 (size_for s c min) ≡ Ok room → Took s books c min room q books'
 
 -- ---- a column on trial, whatever world of a push it stands for
 

@@ -5,7 +5,6 @@ use Rattle.search.specs.Cases.{by_cond}
 use Rattle.blocks.specs.declared.BufferSource.{BufferSource}
 use Rattle.state.specs.declared.BatchCoalescer.{BatchCoalescer}
 use Rattle.state.specs.declared.Column.{Column}
-use Rattle.state.specs.declared.OpenBlock.{OpenBlock}
 use Rattle.state.specs.World.{World, world, no_column, column_of}
 use Rattle.state.specs.Layout.{is_views, list_length}
 use Rattle.tallies.specs.Tally.{tally_of}
@@ -18,6 +17,8 @@ use Rattle.push_safety.specs.Run.{Goes}
 use Rattle.push_safety.specs.StepGoes.{column_cases}
 use Rattle.trial_truth.specs.AlikeLaws.{alike_trans}
 use Rattle.trial_truth.specs.Like.{ColumnOpens, Untouched, Like, ColumnMoves}
+use Rattle.std.specs.Prelude.{Option, Some, None}
+use Rattle.counts.specs.declared.BufferNumber.{BufferNumber}
 
 -- ---- states
 
@@ -46,29 +47,29 @@ set_twice (z ∷ l) zero x y = refl
 set_twice (z ∷ l) (suc c) x y = ap (λ (t : List Column). z ∷ t) (set_twice l c x y)
 
 -- a column as it is; one put twice; and another one
-pub column-same : (s : BatchCoalescer) (c : ℕ) → (column_of s c).block ≡ OpenBlock.Closed → with_column s c (column_of s c).source OpenBlock.Closed ≡ s
+pub column-same : (s : BatchCoalescer) (c : ℕ) → (column_of s c).block ≡ None → with_column s c (column_of s c).source None ≡ s
 unfolding column_of
 column-same s c e =
-    let q : set s.column c (record { kind = (get_or s.column c no_column).kind; source = (get_or s.column c no_column).source; block = OpenBlock.Closed }) ≡ s.column = ap (λ (o : OpenBlock). set s.column c (record { kind = (get_or s.column c no_column).kind; source = (get_or s.column c no_column).source; block = o })) (sym e) ∙ set_same s.column c in
+    let q : set s.column c (record { kind = (get_or s.column c no_column).kind; source = (get_or s.column c no_column).source; block = None }) ≡ s.column = ap (λ (o : Option BufferNumber). set s.column c (record { kind = (get_or s.column c no_column).kind; source = (get_or s.column c no_column).source; block = o })) (sym e) ∙ set_same s.column c in
     rw q
 
-pub column-twice : (s : BatchCoalescer) (c : ℕ) (a e : BufferSource) (x y : OpenBlock) → with_column (with_column s c a x) c e y ≡ with_column s c e y
+pub column-twice : (s : BatchCoalescer) (c : ℕ) (a e : BufferSource) (x y : Option BufferNumber) → with_column (with_column s c a x) c e y ≡ with_column s c e y
 column-twice s c a e x y =
     let k : (column_of (with_column s c a x) c).kind ≡ (column_of s c).kind = (same-column s c a x).kind c in
     rw (k, set_twice s.column c (record { kind = (column_of s c).kind; source = a; block = x }) (record { kind = (column_of s c).kind; source = e; block = y }))
 
-pub column_other : (s : BatchCoalescer) (c : ℕ) (source : BufferSource) (block : OpenBlock) (d : ℕ) → d ≢ c → column_of (with_column s c source block) d ≡ column_of s d
+pub column_other : (s : BatchCoalescer) (c : ℕ) (source : BufferSource) (block : Option BufferNumber) (d : ℕ) → d ≢ c → column_of (with_column s c source block) d ≡ column_of s d
 column_other s c source block d n = column_cases s c source block d (λ (x : Column). x ≡ column_of s d) (λ q. absurd (n q)) refl
 
-none_open : (o : OpenBlock) → has_block o ≡ false → o ≡ OpenBlock.Closed
-none_open (OpenBlock.Number k) e = absurd (true≢false e)
-none_open OpenBlock.Closed e = refl
+none_open : (o : Option BufferNumber) → has_block o ≡ false → o ≡ None
+none_open (Some k) e = absurd (true≢false e)
+none_open None e = refl
 
 -- the state with its block closed, whether it was open or not
-pub closed_state : (v : World) (c : ℕ) → (closed v c).state ≡ with_column v.state c (column_of v.state c).source OpenBlock.Closed
+pub closed_state : (v : World) (c : ℕ) → (closed v c).state ≡ with_column v.state c (column_of v.state c).source None
 unfolding closed listing counting
 closed_state v c =
-    by_cond (λ (u : World). u.state ≡ with_column v.state c (column_of v.state c).source OpenBlock.Closed) (is_open v c)
+    by_cond (λ (u : World). u.state ≡ with_column v.state c (column_of v.state c).source None) (is_open v c)
     (λ o. refl)
     (λ o. sym (column-same v.state c (none_open (column_of v.state c).block o)))
 

@@ -14,7 +14,6 @@ use Rattle.listings.specs.Listing.{listed_one, over_list}
 use Rattle.sound.specs.Change.{with_length}
 use Rattle.tallies.specs.TallyLaws.{entry-with_tally}
 use Rattle.counts.specs.declared.BufferNumber.{BufferNumber}
-use Rattle.state.specs.declared.OpenBlock.{OpenBlock}
 use Rattle.state.specs.World.{World, column_of}
 use Rattle.state.specs.Layout.{is_views, tally, list_place, cell_place, list_length}
 use Rattle.rules.specs.Batch.{Batch, record_of, list_of, row_view}
@@ -37,6 +36,7 @@ use Rattle.push_safety.specs.Along.{Along, along_trans, along_in}
 use Rattle.trial_truth.specs.Alike.{Alike}
 use Rattle.trial_truth.specs.AlikeLaws.{MoreListed, alike_refl, alike_trans, tally_alike, length_alike, length_other, over_listed}
 use Rattle.trial_truth.specs.Like.{ColumnMoves, LeavesLists}
+use Rattle.std.specs.Prelude.{Some, None}
 
 -- ---- none, one after another, and slots only
 
@@ -118,7 +118,7 @@ module _ (v : World) (b : Batch) (c at from n : ℕ) (r : Run v) (h : c < v.stat
       lists_at slot d =
           same_list_length v v' (rw s (same_refl v.state)) (rw q (length_at k x (run_firm r).books (open_used c r h y o) fits).framed) slot d
 
-      at_other : (j : ℕ) → ((column_of v.state c).block ≡ OpenBlock.Number (record { 0 = j }) → ⊥) → (entry_of v'.books j).length.0 ≡ (entry_of v.books j).length.0
+      at_other : (j : ℕ) → ((column_of v.state c).block ≡ Some (record { 0 = j }) → ⊥) → (entry_of v'.books j).length.0 ≡ (entry_of v.books j).length.0
       at_other j m =
           rw (q, length_other k x (run_firm r).books (open_used c r h y o) fits j (λ z. m (rw z (open_block v c o))))
 
@@ -170,7 +170,7 @@ module _ (v : World) (c : ℕ) (r : Run v) (h : c < v.state.columns) (y : is_vie
       (λ o. entry-with_tally v.books (tally v.state (filling v) (c + 1)) (list_length v (filling v) c + 1) k g)
       (λ o. refl)
 
-  not_number : (k : BufferNumber) → OpenBlock.Closed ≡ OpenBlock.Number k → ⊥
+  not_number : (k : BufferNumber) → None ≡ Some k → ⊥
   not_number k q = let z : ◌≡◌ {A = ℕ} 0 1 = cc in omega arith
 
   pub closed_moves : ColumnMoves c v (closed v c)
@@ -232,7 +232,7 @@ module _ (v : World) (b : Batch) (c : ℕ) (r : Run v) (h : c < v.state.columns)
   unfolding list_attached counting
   attached_state = refl
 
-  pub attached_moves : (column_of v.state c).block ≡ OpenBlock.Closed → ColumnMoves c v (list_attached v b c)
+  pub attached_moves : (column_of v.state c).block ≡ None → ColumnMoves c v (list_attached v b c)
   attached_moves o =
       record {
         along = record { goes = attached_goes v b c h x l r o; beside = attached_beside v b c };

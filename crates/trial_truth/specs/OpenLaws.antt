@@ -14,12 +14,10 @@ use Rattle.listings.specs.Listing.{taken}
 use Rattle.sound.specs.Change.{Roomy, Changed}
 use Rattle.sound.specs.OpLaws.{taken-changed, used_taken}
 use Rattle.room.specs.declared.Room.{Room}
-use Rattle.room.specs.declared.Chosen.{Chosen}
 use Rattle.room.specs.Room.{block_room, entry_at, opened_as, opened}
 use Rattle.room.specs.RoomLaws.{Found-room, room_says, block_says}
 use Rattle.state.specs.declared.BatchCoalescer.{BatchCoalescer}
 use Rattle.state.specs.declared.Column.{Column}
-use Rattle.state.specs.declared.OpenBlock.{OpenBlock}
 use Rattle.state.specs.World.{World, world, column_of}
 use Rattle.state.specs.Layout.{is_views, list_length}
 use Rattle.rules.specs.Batch.{Batch}
@@ -41,6 +39,7 @@ use Rattle.trial_truth.specs.AlikeLaws.{more_used, alike_trans, alike_room, take
 use Rattle.trial_truth.specs.Like.{ColumnOpens, Like, Reached, Follows, LeavesLists, size_for, Took, Buffers}
 use Rattle.trial_truth.specs.LikeLaws.{column_other}
 use Rattle.trial_truth.specs.MoveLaws.{views_make}
+use Rattle.std.specs.Prelude.{Option, Some, Result, Ok, Err}
 
 -- ---- the lowest free number
 
@@ -81,7 +80,7 @@ pub record MayOpen (s : BatchCoalescer) (books : List ℕ) (b : Batch) (c : ℕ)
   pub column : c < s.columns
   pub views : is_views s c ≡ true
   pub source : (column_of v.state c).source ≡ (column_of s c).source
-  pub put : (source : BufferSource) (block : OpenBlock) → with_column v.state c source block ≡ with_column s c source block
+  pub put : (source : BufferSource) (block : Option BufferNumber) → with_column v.state c source block ≡ with_column s c source block
 
 module _ {s : BatchCoalescer} {books : List ℕ} {b : Batch} {c : ℕ} {v : World} (o : MayOpen s books b c v) (min at from m : ℕ) (l : long_before v b c from m ≤ min) where
   abbrev a : Like s books b (c + 1) v
@@ -112,7 +111,7 @@ module _ {s : BatchCoalescer} {books : List ℕ} {b : Batch} {c : ℕ} {v : Worl
   small : s.pool.0 < 2 ^ 32
   small = omega (arith, (run_bounds a.run).pool, ap (λ p. p.0) a.set_up.pool)
 
-  module _ (room : Room) (e : block_room books s.numbers s.pool.0 size ≡ Chosen.At room) where
+  module _ (room : Room) (e : block_room books s.numbers s.pool.0 size ≡ Ok room) where
     abbrev i : ℕ
     i = room.number.0
 
@@ -153,7 +152,7 @@ module _ {s : BatchCoalescer} {books : List ℕ} {b : Batch} {c : ℕ} {v : Worl
         })
 
     abbrev u : World
-    u = in_state (in_books v (taken v.books i real)) (with_column v.state c source (OpenBlock.Number room.number))
+    u = in_state (in_books v (taken v.books i real)) (with_column v.state c source (Some room.number))
 
     module _ (n : list_length v (filling v) c + 1 ≤ v.state.lists) where
       opens : block_opened v c min ≡ ok u
@@ -168,7 +167,7 @@ module _ {s : BatchCoalescer} {books : List ℕ} {b : Batch} {c : ℕ} {v : Worl
 
       number_here : open_number u c ≡ i
       unfolding open_number
-      number_here = ap (λ (x : Column). block_number x.block) (column-new v.state c source (OpenBlock.Number room.number) y')
+      number_here = ap (λ (x : Column). block_number x.block) (column-new v.state c source (Some room.number) y')
 
       live_here : is_free (entry_of u.books (open_number u c)) ≡ false
       live_here = rw number_here (ap is_free done.same ∙ opened_live room.start size)
@@ -182,10 +181,10 @@ module _ {s : BatchCoalescer} {books : List ℕ} {b : Batch} {c : ℕ} {v : Worl
       w = fills.world
 
       abbrev t : BatchCoalescer
-      t = with_column s c source (OpenBlock.Number room.number)
+      t = with_column s c source (Some room.number)
 
       state : w.state ≡ t
-      state = fills.state ∙ o.put source (OpenBlock.Number room.number)
+      state = fills.state ∙ o.put source (Some room.number)
 
       abbrev marked : List ℕ
       marked = taken books i mark
@@ -195,16 +194,16 @@ module _ {s : BatchCoalescer} {books : List ℕ} {b : Batch} {c : ℕ} {v : Worl
       was {d} {k} g o =
           record {
             column = o.column;
-            views = sym (same_views (same-column s c source (OpenBlock.Number room.number)) d) ∙ o.views;
-            block = ap (λ (x : Column). x.block) (sym (column_other s c source (OpenBlock.Number room.number) d (λ z. omega arith))) ∙ o.block;
+            views = sym (same_views (same-column s c source (Some room.number)) d) ∙ o.views;
+            block = ap (λ (x : Column). x.block) (sym (column_other s c source (Some room.number) d (λ z. omega arith))) ∙ o.block;
           }
 
       other : {d k : ℕ} → c + 1 ≤ d → ColumnOpens t d k → k ≢ i
       other {d} {k} g o = let z = a.live d k g (was g o) in free_other books i k found.number.accepted z.0 z.1
 
-      block_at : (k : ℕ) → k ≢ i → (column_of u.state c).block ≡ OpenBlock.Number (record { 0 = k }) → ⊥
+      block_at : (k : ℕ) → k ≢ i → (column_of u.state c).block ≡ Some (record { 0 = k }) → ⊥
       block_at k n o =
-          let p : OpenBlock.Number room.number ≡ OpenBlock.Number (record { 0 = k }) = ap (λ (x : Column). x.block) (sym (column-new v.state c source (OpenBlock.Number room.number) y')) ∙ o in
+          let p : Some room.number ≡ Some (record { 0 = k }) = ap (λ (x : Column). x.block) (sym (column-new v.state c source (Some room.number) y')) ∙ o in
           let q : room.number ≡ record { 0 = k } = cc in
           n (sym (ap (λ (x : BufferNumber). x.0) q))
 
@@ -224,7 +223,7 @@ module _ {s : BatchCoalescer} {books : List ℕ} {b : Batch} {c : ℕ} {v : Worl
                 fills.moves.lists slot d (omega (arith, a.set_up.columns)) (λ p q. omega (arith, x.here (p ∙ a.place)))
                 ∙ same_list_length v u beside.set_up (rw a.set_up.numbers done.framed) slot d
                 ∙ a.lists slot d g (record { later = x.later; around = x.around; here = x.here })
-                ∙ sym (same_list_length (world s [] [] books) (world t [] [] marked) (same-column s c source (OpenBlock.Number room.number)) tried.framed slot d);
+                ∙ sym (same_list_length (world s [] [] books) (world t [] [] marked) (same-column s c source (Some room.number)) tried.framed slot d);
             live = λ d k g o.
                 let z = a.live d k g (was g o) in
                 (omega (arith, z.0, more), rw (tried.other k (other g o)) z.1);
@@ -246,7 +245,7 @@ module _ {s : BatchCoalescer} {books : List ℕ} {b : Batch} {c : ℕ} {v : Worl
             like = rw (k.state, k.books_are) like;
           }
 
-  opened_not : (k : ℕ) → list_length v (filling v) c + 1 ≤ v.state.lists → block_room books s.numbers s.pool.0 size ≡ Chosen.Refused k → block_opened v c min ≡ refuse k
+  opened_not : (k : ℕ) → list_length v (filling v) c + 1 ≤ v.state.lists → block_room books s.numbers s.pool.0 size ≡ Err k → block_opened v c min ≡ refuse k
   unfolding block_opened opened opened_as
   opened_not k n e = rw (le-leb (list_length v (filling v) c + 1) v.state.lists n, same_room, e)
 
@@ -262,13 +261,13 @@ module _ {s : BatchCoalescer} {books : List ℕ} {b : Batch} {c : ℕ} {v : Worl
             not = λ x. rw (o, p);
           }
 
-      refused : (k : ℕ) → n < s.lists → block_room books s.numbers s.pool.0 size ≡ Chosen.Refused k → block_opened v c min ≡ refuse k
+      refused : (k : ℕ) → n < s.lists → block_room books s.numbers s.pool.0 size ≡ Err k → block_opened v c min ≡ refuse k
       refused k g o = opened_not k (omega (arith, e, a.set_up.lists)) o
 
-      by : (x : Chosen) → n < s.lists → block_room books s.numbers s.pool.0 size ≡ x → Follows (bind (block_opened v c min) (λ x. views_compacted x b (span c at from m))) b (c + 1) q books'
-      by (Chosen.Refused k) g o =
+      by : (x : Result Room ℕ) → n < s.lists → block_room books s.numbers s.pool.0 size ≡ x → Follows (bind (block_opened v c min) (λ x. views_compacted x b (span c at from m))) b (c + 1) q books'
+      by (Err k) g o =
           stopped k (among_not 0 refl (block_among books s.numbers s.pool.0 size k o)) (t.refused g k o) (refused k g o)
-      by (Chosen.At room) g o =
+      by (Ok room) g o =
           let k = t.opened g room o in
           record {
             done = λ x. reached room o (omega (arith, e, a.set_up.lists)) k;

@@ -11,7 +11,6 @@ use Rattle.byte_view.specs.Copying.{walk_rows, walk_of}
 use Rattle.byte_view.specs.RuleLaws.{walked_is, long_before_is}
 use Rattle.state.specs.declared.BatchCoalescer.{BatchCoalescer}
 use Rattle.state.specs.declared.Column.{Column}
-use Rattle.state.specs.declared.OpenBlock.{OpenBlock}
 use Rattle.state.specs.World.{World, world, column_of}
 use Rattle.state.specs.Layout.{is_views}
 use Rattle.state.proofs.LayoutLaws.{views_width}
@@ -28,11 +27,12 @@ use Rattle.trial_truth.specs.Like.{Buffers, TellsAttached, TellsCompacted, Tells
 use Rattle.trial_truth.specs.LikeLaws.{like_more, like_slots}
 use Rattle.trial_truth.specs.ColumnLaws.{views_in, attached_follows, attached_full}
 use Rattle.trial_truth.specs.CompactLaws.{new_follows, fits_follows, walk_follows}
+use Rattle.std.specs.Prelude.{Option, Some, None}
 
 -- ---- attached
 
 module _ {s : BatchCoalescer} {books : List ℕ} {r : ColumnRecord} {c : ℕ} (h : c < s.columns) {n : ℕ} (p : n ≡ closed_length (world s [] [] books) c) where
-  pub tells_attached : {k : Column} {t : BatchCoalescer} → n + r.count ≤ s.lists → k ≡ column_of s c → t ≡ with_column s c k.source OpenBlock.Closed → TellsAttached s books r c (record { state = t; number = 0 })
+  pub tells_attached : {k : Column} {t : BatchCoalescer} → n + r.count ≤ s.lists → k ≡ column_of s c → t ≡ with_column s c k.source None → TellsAttached s books r c (record { state = t; number = 0 })
   tells_attached l x z = record { tells = λ b v at from m q y e a. attached_follows a e h y q p at from m l x z }
 
   pub tells_full : s.lists < n + r.count → TellsAttached s books r c (record { state = s; number = 10 })
@@ -68,14 +68,14 @@ module _ (v : World) (rows : ℕ) (records body : List ℕ) (r : ColumnRecord) (
         ∙ sym (long_before_is v b c (views_width v.state c y) from w.rows.0)
         ∙ ap (long_before v b c from) rows_at
 
-block_at : (s : BatchCoalescer) (c : ℕ) {k : Column} {o : OpenBlock} → k ≡ column_of s c → k.block ≡ o → (column_of s c).block ≡ o
+block_at : (s : BatchCoalescer) (c : ℕ) {k : Column} {o : Option BufferNumber} → k ≡ column_of s c → k.block ≡ o → (column_of s c).block ≡ o
 block_at s c x z = ap (λ (d : Column). d.block) (sym x) ∙ z
 
 module _ {s : BatchCoalescer} {books body : List ℕ} {r : ColumnRecord} {size c from n : ℕ} (roomy : Roomy books s.numbers) (h : c < s.columns) (y : is_views s c ≡ true) {k : Column} (x : k ≡ column_of s c) where
-  pub tells_new : {list : ℕ} {q : Step} {books' : List ℕ} → list ≡ closed_length (world s [] [] books) c → k.block ≡ OpenBlock.Closed → Buffers s books c list size q books' → TellsCompacted s books body r size c from n q books'
+  pub tells_new : {list : ℕ} {q : Step} {books' : List ℕ} → list ≡ closed_length (world s [] [] books) c → k.block ≡ None → Buffers s books c list size q books' → TellsCompacted s books body r size c from n q books'
   tells_new p z t = record { tells = λ rows records v at g l i e a. new_follows a e h y roomy at from n l (block_at s c x z) p (rw i at t) }
 
-  module _ {j : BufferNumber} (z : k.block ≡ OpenBlock.Number j) {rest : ℕ} (g : rest ≡ (entry_of books j.0).capacity.0 - (entry_of books j.0).length.0) where
+  module _ {j : BufferNumber} (z : k.block ≡ Some j) {rest : ℕ} (g : rest ≡ (entry_of books j.0).capacity.0 - (entry_of books j.0).length.0) where
     pub tells_fits : size ≤ rest → TellsCompacted s books body r size c from n (record { state = s; number = 0 }) books
     tells_fits f = record { tells = λ rows records v at p l i e a. fits_follows a e h y roomy at from n l (block_at s c x z) g (rw i at f) }
 

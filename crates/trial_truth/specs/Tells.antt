@@ -1,7 +1,6 @@
 -- What the trial of each step tells of the push, whatever world it stands for. w₀ is the world in which the columns were decided.
 use Rattle.std.specs.Prelude.{ℕ, zero, suc, ◌+◌, ◌-◌, ◌≤◌, ◌≡◌, ◌≢◌, cond, List}
 use Rattle.state.specs.declared.BatchCoalescer.{BatchCoalescer}
-use Rattle.state.specs.declared.OpenBlock.{OpenBlock}
 use Rattle.state.specs.World.{World, column_of}
 use Rattle.state.specs.Layout.{is_views}
 use Rattle.rules.specs.Batch.{Batch, batch}
@@ -14,6 +13,7 @@ use Rattle.rules.specs.declared.Step.{Step}
 use Rattle.routes.specs.declared.Sources.{Sources}
 use Rattle.routes.specs.Sourced.{Sourced}
 use Rattle.trial_truth.specs.Like.{number_of, Like, Reached, Follows}
+use Rattle.std.specs.Prelude.{None}
 
 -- the world v of a push, where the trial of the batch b begins a slot with the state s
 pub record BeginsSlot (s : BatchCoalescer) (books : List ℕ) (x : Sources) (b : Batch) (w₀ v : World) : Type 0 where
@@ -36,7 +36,7 @@ pub record TellsPart (s : BatchCoalescer) (books : List ℕ) (x : Sources) (reco
 
 -- the state with the block of column c closed, where it is one of views; so of the first n columns
 unfoldable pub closed_at : BatchCoalescer → ℕ → BatchCoalescer
-closed_at s c = cond (is_views s c) (with_column s c (column_of s c).source OpenBlock.Closed) s
+closed_at s c = cond (is_views s c) (with_column s c (column_of s c).source None) s
 
 unfoldable pub closed_to : BatchCoalescer → ℕ → BatchCoalescer
 closed_to s zero = s

@@ -1,6 +1,6 @@
 -- A batch of two columns, one with a bitmap that begins within a byte: which rows are null, and the bytes of the others.
 use Rattle.std.specs.Prelude.{ℕ, ◌<◌, ◌≡◌, refl, Bool, true, false, ◌&&◌, List, [], ◌∷◌, ◌++◌, map, T, length, get_or, drop}
-use Rattle.std.proofs.Math.Option.{Option, none, some}
+use Rattle.std.specs.Prelude.{Option, None, Some}
 use Rattle.search.specs.Cases.{and_left, and_right}
 use Rattle.search.specs.Table.{at_entry, same, same→eq}
 use Rattle.blocks.specs.declared.BufferSource.{BufferSource}

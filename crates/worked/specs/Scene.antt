@@ -1,13 +1,11 @@
 -- The worlds and batches of the worked examples: small courts, set up by the definitions and pushed to by them.
 use Rattle.std.specs.Prelude.{ℕ, zero, suc, ◌+◌, ◌/◌, ◌%◌, List, [], ◌∷◌, ◌++◌, length, replicate}
-use Rattle.std.proofs.Math.Option.{Option, none, some}
+use Rattle.std.specs.Prelude.{Option, None, Some}
 use Rattle.words.specs.Word.{word_of}
 use Rattle.words.specs.Run.{put}
 use Rattle.books.specs.Entry.{used_of, entry_of}
 use Rattle.listings.specs.Listing.{taken}
 use Rattle.room.specs.Room.{entry_at}
-use Rattle.state.specs.declared.Limit.{Limit}
-use Rattle.state.specs.declared.OpenBlock.{OpenBlock}
 use Rattle.state.specs.World.{World, column_of}
 use Rattle.state.specs.Layout.{slots_length, books_length, list_length}
 use Rattle.state.specs.Rows.{Cell, null, value, Row, up_to}
@@ -15,6 +13,8 @@ use Rattle.rules.specs.Batch.{Batch}
 use Rattle.rules.specs.Steps.{in_state, in_books, buffering, with_limit, with_column}
 use Rattle.rules.specs.Views.{part_copied}
 use Rattle.rules.specs.Calls.{Answered, or_old, Wanted, new_state, set_up_call, push_call}
+use Rattle.counts.specs.declared.BufferNumber.{BufferNumber}
+use Rattle.counts.specs.declared.RowCount.{RowCount}
 
 -- a word as its four bytes
 unfoldable pub word_bytes : ℕ → List ℕ
@@ -38,9 +38,9 @@ unfoldable pub numbered : ℕ → ℕ → Batch
 numbered k n =
     record { rows = n; records = words_bytes (5 ∷ 0 ∷ 4294967295 ∷ 0 ∷ 0 ∷ 0 ∷ 0 ∷ 0 ∷ []); body = numbers k n }
 
-abbrev pub limit_for : Option ℕ → Limit
-limit_for none = Limit.Unset
-limit_for (some n) = Limit.Rows (record { 0 = n })
+abbrev pub limit_for : Option ℕ → Option RowCount
+limit_for None = None
+limit_for (Some n) = Some (record { 0 = n })
 
 -- a court with target T and a limit, after pushes of so many rows each, numbered through
 unfoldable pub court : ℕ → Option ℕ → World
@@ -89,7 +89,7 @@ holding w number start capacity len =
 unfoldable pub filled_block : World → ℕ → ℕ → ℕ → ℕ → World
 filled_block w number start capacity len =
     let v = in_books w (taken w.books number (entry_at start capacity len 0 1)) in
-    in_state v (with_column v.state 0 (record { current = record { 0 = capacity } }) (OpenBlock.Number (record { 0 = number })))
+    in_state v (with_column v.state 0 (record { current = record { 0 = capacity } }) (Some (record { 0 = number })))
 
 -- long views of the given lengths, one behind the other from an offset of a buffer of sample bytes on: length, the first four bytes,
 -- index 0, offset
@@ -128,9 +128,9 @@ pub record Left : Type 0 where
   pub block : Option ℕ
   pub buffers : List Extent
 
-abbrev pub number_in : OpenBlock → Option ℕ
-number_in OpenBlock.Closed = none
-number_in (OpenBlock.Number k) = some k.0
+abbrev pub number_in : Option BufferNumber → Option ℕ
+number_in None = None
+number_in (Some k) = Some k.0
 
 unfoldable pub left : Answered → Left
 left a =

@@ -1,7 +1,7 @@
 -- The worked examples of 01's "Both sides of each edge": one table, one computed test, and the rule at each entry.
 use Rattle.std.specs.Prelude.{ℕ, ◌<◌, ◌≡◌, refl, Bool, true, false, ◌&&◌, List, [], ◌∷◌, ◌++◌, map, T, eqb, length, get_or, drop}
 use Rattle.std.proofs.Common.{ap, eqb→eq}
-use Rattle.std.proofs.Math.Option.{Option, none, some}
+use Rattle.std.specs.Prelude.{Option, None, Some}
 use Rattle.search.specs.Cases.{and_left, and_right}
 use Rattle.search.specs.Table.{at_entry, same, same→eq}
 use Rattle.blocks.specs.declared.BufferSource.{BufferSource}
@@ -108,16 +108,16 @@ same_extents→eq (x ∷ xs) (y ∷ ys) t =
     cc
 
 abbrev same_block : Option ℕ → Option ℕ → Bool
-same_block none none = true
-same_block none (some n) = false
-same_block (some m) none = false
-same_block (some m) (some n) = eqb m n
+same_block None None = true
+same_block None (Some n) = false
+same_block (Some m) None = false
+same_block (Some m) (Some n) = eqb m n
 
 same_block→eq : (m n : Option ℕ) → T (same_block m n) → m ≡ n
-same_block→eq none none t = refl
-same_block→eq none (some n) t = absurd t
-same_block→eq (some m) none t = absurd t
-same_block→eq (some m) (some n) t = ap some (eqb→eq m n t)
+same_block→eq None None t = refl
+same_block→eq None (Some n) t = absurd t
+same_block→eq (Some m) None t = absurd t
+same_block→eq (Some m) (Some n) t = ap Some (eqb→eq m n t)
 
 abbrev same_numbers : Left → Left → Bool
 same_numbers l m = same (l.answer ∷ l.kept ∷ l.listed ∷ []) (m.answer ∷ m.kept ∷ m.listed ∷ [])
@@ -170,40 +170,40 @@ table =
     ∷ asks (2_000_000 ∷ 1 ∷ []) (2_000_000 ∷ 1_048_576 ∷ [])
     ∷ asks (1_048_576 ∷ []) (1_048_576 ∷ [])
     -- W6 "T 4, pushes 3 and 3: queued 4, buffered 2"
-    ∷ cuts 4 none (3 ∷ 3 ∷ []) ((0 ∷ 1 ∷ 2 ∷ 3 ∷ []) ∷ []) (4 ∷ 5 ∷ [])
+    ∷ cuts 4 None (3 ∷ 3 ∷ []) ((0 ∷ 1 ∷ 2 ∷ 3 ∷ []) ∷ []) (4 ∷ 5 ∷ [])
     -- W7 "T 4, push 8: queued 4, 4, buffered 0"
-    ∷ cuts 4 none (8 ∷ []) ((0 ∷ 1 ∷ 2 ∷ 3 ∷ []) ∷ (4 ∷ 5 ∷ 6 ∷ 7 ∷ []) ∷ []) []
+    ∷ cuts 4 None (8 ∷ []) ((0 ∷ 1 ∷ 2 ∷ 3 ∷ []) ∷ (4 ∷ 5 ∷ 6 ∷ 7 ∷ []) ∷ []) []
     -- W8 "T 8, limit 2, pushes 2, 3, 3: queued 5, 3"
-    ∷ cuts 8 (some 2) (2 ∷ 3 ∷ 3 ∷ []) ((0 ∷ 1 ∷ 2 ∷ 3 ∷ 4 ∷ []) ∷ (5 ∷ 6 ∷ 7 ∷ []) ∷ []) []
+    ∷ cuts 8 (Some 2) (2 ∷ 3 ∷ 3 ∷ []) ((0 ∷ 1 ∷ 2 ∷ 3 ∷ 4 ∷ []) ∷ (5 ∷ 6 ∷ 7 ∷ []) ∷ []) []
     -- W9 "T 4, limit 5, push 6: queued 6; push 5 instead: queued 4, buffered 1"
-    ∷ cuts 4 (some 5) (6 ∷ []) ((0 ∷ 1 ∷ 2 ∷ 3 ∷ 4 ∷ 5 ∷ []) ∷ []) []
-    ∷ cuts 4 (some 5) (5 ∷ []) ((0 ∷ 1 ∷ 2 ∷ 3 ∷ []) ∷ []) (4 ∷ [])
+    ∷ cuts 4 (Some 5) (6 ∷ []) ((0 ∷ 1 ∷ 2 ∷ 3 ∷ 4 ∷ 5 ∷ []) ∷ []) []
+    ∷ cuts 4 (Some 5) (5 ∷ []) ((0 ∷ 1 ∷ 2 ∷ 3 ∷ []) ∷ []) (4 ∷ [])
     -- W10 "ideal 100: actual 200 attaches, 201 compacts"
     ∷ views (twice 200 8_392)
-    (record { answer = 0; kept = 4_096; listed = 1; block = none; buffers = extent 0 200 100 ∷ [] })
+    (record { answer = 0; kept = 4_096; listed = 1; block = None; buffers = extent 0 200 100 ∷ [] })
     (up_to 100 sample)
     ∷ views (twice 201 8_393)
-    (record { answer = 0; kept = 8_192; listed = 0; block = some 1; buffers = extent 0 201 100 ∷ extent 201 8_192 100 ∷ [] })
+    (record { answer = 0; kept = 8_192; listed = 0; block = Some 1; buffers = extent 0 201 100 ∷ extent 201 8_192 100 ∷ [] })
     (up_to 100 sample)
     -- W11 "block ends at 8,152, the new one is 16,384 with 70 bytes"
     ∷ views squeezed
-    (record { answer = 0; kept = 16_384; listed = 1; block = some 2; buffers = extent 0 8_192 8_152 ∷ extent 8_192 300 130 ∷ extent 8_492 16_384 70 ∷ [] })
+    (record { answer = 0; kept = 16_384; listed = 1; block = Some 2; buffers = extent 0 8_192 8_152 ∷ extent 8_192 300 130 ∷ extent 8_492 16_384 70 ∷ [] })
     (up_to 130 sample)
     -- "dropping the empty last block"
     ∷ views last_block
-    (record { answer = 0; kept = 16_384; listed = 2; block = some 3; buffers = extent 0 4_096 4_089 ∷ extent 4_096 60 26 ∷ extent 4_156 8_192 0 ∷ extent 12_348 16_384 13 ∷ [] })
+    (record { answer = 0; kept = 16_384; listed = 2; block = Some 3; buffers = extent 0 4_096 4_089 ∷ extent 4_096 60 26 ∷ extent 4_156 8_192 0 ∷ extent 12_348 16_384 13 ∷ [] })
     (drop 13 (up_to 26 sample))
     -- "rolling rows back after a refusal but not the block size": W10's pool, one byte short
     ∷ views (twice 201 8_392)
-    (record { answer = 12; kept = 4_096; listed = 0; block = none; buffers = extent 0 201 100 ∷ [] })
+    (record { answer = 12; kept = 4_096; listed = 0; block = None; buffers = extent 0 201 100 ∷ [] })
     []
     -- "raising the index of inline views, which hold text there"
     ∷ views behind
-    (record { answer = 0; kept = 4_096; listed = 2; block = none; buffers = extent 0 40 40 ∷ extent 40 40 40 ∷ [] })
+    (record { answer = 0; kept = 4_096; listed = 2; block = None; buffers = extent 0 40 40 ∷ extent 40 40 40 ∷ [] })
     (up_to 20 sample ++ (97 ∷ 98 ∷ 99 ∷ 100 ∷ 101 ∷ 102 ∷ 103 ∷ 104 ∷ up_to 20 sample))
     -- "open one for ideal minus bytes copied": 16,340 of 16,400 are left, so 16,384 and not 32,768
     ∷ part less_than_ideal
-    (record { answer = 0; kept = 16_384; listed = 1; block = some 2; buffers = extent 0 8_192 8_152 ∷ extent 8_192 8_192 8_192 ∷ extent 16_384 16_384 50 ∷ [] })
+    (record { answer = 0; kept = 16_384; listed = 1; block = Some 2; buffers = extent 0 8_192 8_152 ∷ extent 8_192 8_192 8_192 ∷ extent 16_384 16_384 50 ∷ [] })
     ∷ []
 
 -- every row of the table holds of the definitions

@@ -4,8 +4,8 @@ use native.Mathlib.Omega.{arith}
 use Rattle.columns.specs.ExitLaws.{closed_none, closed_one}
 use Rattle.columns.proofs.list_closed.Goals as goal
 
-pub returns-in-Closed : goal.returns-in-Closed
-returns-in-Closed c = (search (closed_none, rules), omega arith)
+pub returns-in-None : goal.returns-in-None
+returns-in-None c = (search (closed_none, rules), omega arith)
 
-pub returns-in-Number : goal.returns-in-Number
-returns-in-Number c = (search (closed_one, rules), omega arith)
+pub returns-in-Some : goal.returns-in-Some
+returns-in-Some c = (search (closed_one, rules), omega arith)

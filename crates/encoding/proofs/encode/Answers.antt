@@ -14,23 +14,24 @@ use Rattle.state.specs.contracts.Column as column_row
 use Rattle.state.specs.contracts.BatchCoalescer as state_row
 use Rattle.state.specs.declared.BatchCoalescer.{BatchCoalescer}
 use Rattle.state.specs.declared.Column.{Column}
-use Rattle.state.specs.declared.Limit.{Limit}
-use Rattle.state.specs.declared.OpenBlock.{OpenBlock}
 use Rattle.state.specs.World.{no_column, column_of}
 use Rattle.codes.specs.Code.{limit_number, block_number, ColumnFits, Words}
 use Rattle.codes.specs.PutLaws.{state_put}
 use Rattle.encoding.proofs.encode.Goals as goal
+use Rattle.std.specs.Prelude.{Option, Some, None}
+use Rattle.counts.specs.declared.BufferNumber.{BufferNumber}
+use Rattle.counts.specs.declared.RowCount.{RowCount}
 
 -- what the value of an open block, a limit, a column, an array of columns and a state is known to be by its type
-block-known : (o : OpenBlock) (us : List Val) → shadow ((block_row.the_field).row.own_val ((block_row.the_field).into o) us) → block_number o < 2 ^ 32
+block-known : (o : Option BufferNumber) (us : List Val) → shadow ((block_row.the_field).row.own_val ((block_row.the_field).into o) us) → block_number o < 2 ^ 32
 unfolding block_number
-block-known (OpenBlock.Number k) us p = p.1.1.1.1.0.1.1.0.1
-block-known OpenBlock.Closed us p = omega arith
+block-known (Some k) us p = p.1.1.1.1.0.1.1.0.1
+block-known None us p = omega arith
 
-limit-known : (l : Limit) (us : List Val) → shadow ((limit_row.the_field).row.own_val ((limit_row.the_field).into l) us) → limit_number l < 2 ^ 32
+limit-known : (l : Option RowCount) (us : List Val) → shadow ((limit_row.the_field).row.own_val ((limit_row.the_field).into l) us) → limit_number l < 2 ^ 32
 unfolding limit_number
-limit-known (Limit.Rows k) us p = p.1.1.1.1.0.1.1.0.1
-limit-known Limit.Unset us p = omega arith
+limit-known (Some k) us p = p.1.1.1.1.0.1.1.0.1
+limit-known None us p = omega arith
 
 column-known : (d : Column) (us : List Val) → shadow ((column_row.the_row).own_val d us) → ColumnFits d
 column-known d us p =

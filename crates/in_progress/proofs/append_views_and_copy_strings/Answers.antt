@@ -20,8 +20,8 @@ copy_strings-requires c = (compact_fits c.requires.0 c.requires.1 c.column_of-co
 pub walk_on-requires : goal.walk_on-requires
 walk_on-requires c = compact_walks c.requires.0 c.requires.1 c.column_of-column.ensures (search rules) c.rest_of-rest.ensures (search rules)
 
-pub returns-in-Closed : goal.returns-in-Closed
-returns-in-Closed c = compact_new c.requires.0 c.requires.1 c.column_of-column.ensures (search rules) c.open_and_copy.ensures
+pub returns-in-None : goal.returns-in-None
+returns-in-None c = compact_new c.requires.0 c.requires.1 c.column_of-column.ensures (search rules) c.open_and_copy.ensures
 
 pub returns-then-ideal-rest : goal.returns-then-ideal-rest
 returns-then-ideal-rest c = compact_copied c.requires.0 c.requires.1 c.column_of-column.ensures (search rules) c.rest_of-rest.ensures (search rules) c.copy_strings.ensures

@@ -10,5 +10,5 @@ column_of-column-requires c = search (part_column, rules)
 pub copy_strings-requires : goal.copy_strings-requires
 copy_strings-requires c = (c.requires, block_at _ _ c.column_of-column.ensures (search rules))
 
-pub returns-in-Closed : goal.returns-in-Closed
-returns-in-Closed c = absurd (block_open c.requires c.column_of-column.ensures (search rules))
+pub returns-in-None : goal.returns-in-None
+returns-in-None c = absurd (block_open c.requires c.column_of-column.ensures (search rules))

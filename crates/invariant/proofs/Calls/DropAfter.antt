@@ -22,7 +22,6 @@ use Rattle.views.specs.View.{view_of, is_valid}
 use Rattle.counts.specs.declared.BufferNumber.{BufferNumber}
 use Rattle.state.specs.declared.BatchCoalescer.{BatchCoalescer}
 use Rattle.state.specs.declared.Column.{Column}
-use Rattle.state.specs.declared.OpenBlock.{OpenBlock}
 use Rattle.state.specs.World.{World, column_of}
 use Rattle.state.specs.Layout.{is_views, tally, cell_place, list_length, rows_in, queued_slot}
 use Rattle.state.proofs.SlotLaws.{queued_in, queued_one, queued_place, queued_less}
@@ -48,13 +47,14 @@ use Rattle.invariant.specs.RowLaws.{rows-read, upTo-first, upTo-ext}
 use Rattle.invariant.proofs.Calls.After.{rows_are}
 use Rattle.invariant.proofs.Calls.DropLists.{Unlisted, dropping, lists_dropped, lists_unlisted}
 use Rattle.invariant.specs.Calls.DropCounts.{Zeroed, uncounted_is, uncounted_zeroed}
+use Rattle.std.specs.Prelude.{Some}
 
 -- columns hang on no count
 counts_column : (s : BatchCoalescer) (place queued buffered c : ℕ) → column_of (with_counts s place queued buffered) c ≡ column_of s c
 unfolding column_of
 counts_column s place queued buffered c = refl
 
-open_is : (w : World) (c : ℕ) (k : BufferNumber) → (column_of w.state c).block ≡ OpenBlock.Number k → open_number w c ≡ k.0
+open_is : (w : World) (c : ℕ) (k : BufferNumber) → (column_of w.state c).block ≡ Some k → open_number w c ≡ k.0
 unfolding open_number
 open_is w c k o = ap block_number o
 
@@ -259,7 +259,7 @@ module _ {w : World} (g : Between w) (some : w.state.queued ≢ 0) where
       place_other : place ≢ front
       place_other e = front_other (sym e)
 
-      column_was : (c : ℕ) (k : BufferNumber) → (column_of state' c).block ≡ OpenBlock.Number k → (column_of w.state c).block ≡ OpenBlock.Number k
+      column_was : (c : ℕ) (k : BufferNumber) → (column_of state' c).block ≡ Some k → (column_of w.state c).block ≡ Some k
       column_was c k o = ap (λ (x : Column). x.block) (sym (column c)) ∙ o
 
       list_at : (slot c : ℕ) → slot ≤ w.state.queue → c < w.state.columns → Dec (slot ≡ front) → list_length v slot c ≤ w.state.lists
@@ -270,7 +270,7 @@ module _ {w : World} (g : Between w) (some : w.state.queued ≢ 0) where
       none-at slot c p q y (yes e) = rw e (length_front c q)
       none-at slot c p q y (no d) = lengths slot c d q ∙ a.run.none slot c p q y
 
-      block_at : (c : ℕ) (k : BufferNumber) → c < w.state.columns → is_views w.state c ≡ true → (column_of state' c).block ≡ OpenBlock.Number k → k.0 < used_of books₂
+      block_at : (c : ℕ) (k : BufferNumber) → c < w.state.columns → is_views w.state c ≡ true → (column_of state' c).block ≡ Some k → k.0 < used_of books₂
       block_at c k q y o =
           let r : reach w place c ≡ list_length w place c + 1 = reach_open w place c y refl (ap has_block (column_was c k o)) in
           let n : number_at w place c (list_length w place c) ≡ k.0 = number_open w place c _ (omega arith) ∙ open_is w c k (column_was c k o) in

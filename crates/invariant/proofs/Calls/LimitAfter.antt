@@ -5,8 +5,6 @@ use Rattle.std.proofs.Math.Path.{refl, sym, fun_ext}
 use Rattle.std.proofs.Common.{◌∙◌}
 use Rattle.sound.specs.SoundLaws.{sound_recount}
 use Rattle.state.specs.declared.BatchCoalescer.{BatchCoalescer}
-use Rattle.state.specs.declared.Limit.{Limit}
-use Rattle.state.specs.declared.OpenBlock.{OpenBlock}
 use Rattle.state.specs.World.{World, column_of}
 use Rattle.state.specs.Layout.{width_of, is_views, values_bytes, bitmap_bytes, list_bytes, columns_bytes, slot_bytes, values_place, bitmap_place, list_place, cell_place, slots_length, books_length, rows_in, list_length, slot_before, queued_slot}
 use Rattle.state.specs.Rows.{open_bytes, listed_at, buffer_at, slot_cell, slot_rows, buffered_rows}
@@ -20,10 +18,13 @@ use Rattle.invariant.proofs.AloneLaws.{columns_open, alone_columns}
 use Rattle.invariant.proofs.PoolLaws.{unheld_on}
 use Rattle.invariant.specs.RowLaws.{rows-read, batches-read}
 use Rattle.invariant.specs.Calls.MemoryAfter.{SameRows}
+use Rattle.std.specs.Prelude.{Option, Some, None}
+use Rattle.counts.specs.declared.BufferNumber.{BufferNumber}
+use Rattle.counts.specs.declared.RowCount.{RowCount}
 
 -- ---- places
 
-module _ (s : BatchCoalescer) (l : Limit) where
+module _ (s : BatchCoalescer) (l : Option RowCount) where
   columns_bytes_lem : (c : ℕ) → columns_bytes (with_limit s l) c ≡ columns_bytes s c
   unfolding columns_bytes values_bytes bitmap_bytes list_bytes width_of is_views column_of
   columns_bytes_lem zero = refl
@@ -55,7 +56,7 @@ module _ (s : BatchCoalescer) (l : Limit) where
 
 -- ---- worlds
 
-module _ (w : World) (l : Limit) where
+module _ (w : World) (l : Option RowCount) where
   abbrev v : World
   v = in_state w (with_limit w.state l)
 
@@ -71,9 +72,9 @@ module _ (w : World) (l : Limit) where
   unfolding number_at list_length open_number column_of
   numbers slot c i = rw (entries slot c i)
 
-  open_bytes_lem : (o : OpenBlock) → open_bytes v o ≡ open_bytes w o
-  open_bytes_lem (OpenBlock.Number k) = refl
-  open_bytes_lem OpenBlock.Closed = refl
+  open_bytes_lem : (o : Option BufferNumber) → open_bytes v o ≡ open_bytes w o
+  open_bytes_lem (Some k) = refl
+  open_bytes_lem None = refl
 
   buffers : (slot c i : ℕ) → buffer_at v slot c i ≡ buffer_at w slot c i
   unfolding buffer_at list_length column_of

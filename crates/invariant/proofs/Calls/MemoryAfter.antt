@@ -24,11 +24,9 @@ use Rattle.sound.specs.Freed.{free-entry, free-uncounted, released_live}
 use Rattle.sound.proofs.GapFilled.{gap_filled}
 use Rattle.sound.proofs.Others.{taken_filled_live, released-filled, released_filled_same}
 use Rattle.room.specs.declared.Room.{Room}
-use Rattle.room.specs.declared.Chosen.{Chosen}
 use Rattle.room.specs.Room.{chosen, entry_at}
 use Rattle.room.specs.RoomLaws.{Found-room, room_says}
 use Rattle.counts.specs.declared.BufferNumber.{BufferNumber}
-use Rattle.pool.specs.declared.Registered.{Registered}
 use Rattle.pool.specs.Register.{RegisterOutcome, is_held, Gone, let_go, refused, settled_at, registered}
 use Rattle.state.specs.World.{World}
 use Rattle.state.specs.Layout.{list_length}
@@ -50,6 +48,7 @@ use Rattle.invariant.specs.RowLaws.{rows-read}
 use Rattle.invariant.proofs.Calls.After.{queued_read, rows_are}
 use Rattle.invariant.proofs.Steps.EntryMoves.{in_memory, memory-length, memory-rows, memory-reach, memory_remains}
 use Rattle.invariant.specs.Calls.MemoryAfter.{NewlyHeld, SameRows, number_of}
+use Rattle.std.specs.Prelude.{Result, Ok, Err}
 
 -- ---- rows that remain
 
@@ -161,7 +160,7 @@ let_go_other {w} g i k d = go (is_held w.books i) refl
 
 -- ---- registering
 
-no_number : (n : ℕ) (k : BufferNumber) → Registered.Refused n ≡ Registered.Number k → ⊥
+no_number : (n : ℕ) (k : BufferNumber) → Err n ≡ Ok k → ⊥
 no_number n k e = let z : ◌≡◌ {A = ℕ} 0 1 = cc in omega arith
 
 module _ {w : World} (g : Between w) (bytes : List ℕ) (capacity : ℕ) (l : length bytes ≤ capacity) (r : Room) (f : Found-room w.books w.state.numbers (length w.pool) capacity r) where
@@ -292,25 +291,25 @@ module _ {w : World} (g : Between w) (bytes : List ℕ) (capacity : ℕ) where
   unfolding registered
   register_pool = go (ltb capacity (length bytes)) refl
     where
-      chose : length bytes ≤ capacity → (x : Chosen) → chosen w.books w.state.numbers (length w.pool) capacity ≡ x → PoolStays w (in_memory w (settled_at w.books w.pool bytes capacity x).pool (settled_at w.books w.pool bytes capacity x).books)
-      chose l (Chosen.Refused n) e = pool_refl w
-      chose l (Chosen.At r) e = taken_stays g bytes capacity l r (room_says w.books w.state.numbers (length w.pool) capacity r e)
+      chose : length bytes ≤ capacity → (x : Result Room ℕ) → chosen w.books w.state.numbers (length w.pool) capacity ≡ x → PoolStays w (in_memory w (settled_at w.books w.pool bytes capacity x).pool (settled_at w.books w.pool bytes capacity x).books)
+      chose l (Err n) e = pool_refl w
+      chose l (Ok r) e = taken_stays g bytes capacity l r (room_says w.books w.state.numbers (length w.pool) capacity r e)
 
       go : (b : Bool) → ltb capacity (length bytes) ≡ b → PoolStays w (in_memory w (cond b (refused w.books w.pool 13) (settled_at w.books w.pool bytes capacity (chosen w.books w.state.numbers (length w.pool) capacity))).pool (cond b (refused w.books w.pool 13) (settled_at w.books w.pool bytes capacity (chosen w.books w.state.numbers (length w.pool) capacity))).books)
       go true h = pool_refl w
       go false h = chose (ltb-false capacity (length bytes) h) (chosen w.books w.state.numbers (length w.pool) capacity) refl
 
-  pub register_new : (k : BufferNumber) → after.answer ≡ Registered.Number k → NewlyHeld after.pool after.books bytes k.0
+  pub register_new : (k : BufferNumber) → after.answer ≡ Ok k → NewlyHeld after.pool after.books bytes k.0
   unfolding registered
   register_new k = go (ltb capacity (length bytes)) refl
     where
-      chose : length bytes ≤ capacity → (x : Chosen) → chosen w.books w.state.numbers (length w.pool) capacity ≡ x → (settled_at w.books w.pool bytes capacity x).answer ≡ Registered.Number k → NewlyHeld (settled_at w.books w.pool bytes capacity x).pool (settled_at w.books w.pool bytes capacity x).books bytes k.0
-      chose l (Chosen.Refused n) e z = absurd (no_number n k z)
-      chose l (Chosen.At r) e z =
+      chose : length bytes ≤ capacity → (x : Result Room ℕ) → chosen w.books w.state.numbers (length w.pool) capacity ≡ x → (settled_at w.books w.pool bytes capacity x).answer ≡ Ok k → NewlyHeld (settled_at w.books w.pool bytes capacity x).pool (settled_at w.books w.pool bytes capacity x).books bytes k.0
+      chose l (Err n) e z = absurd (no_number n k z)
+      chose l (Ok r) e z =
           let q : r.number.0 ≡ k.0 = ap number_of z in
           rw (← q) (taken-new g bytes capacity l r (room_says w.books w.state.numbers (length w.pool) capacity r e))
 
-      go : (b : Bool) → ltb capacity (length bytes) ≡ b → (cond b (refused w.books w.pool 13) (settled_at w.books w.pool bytes capacity (chosen w.books w.state.numbers (length w.pool) capacity))).answer ≡ Registered.Number k → NewlyHeld (cond b (refused w.books w.pool 13) (settled_at w.books w.pool bytes capacity (chosen w.books w.state.numbers (length w.pool) capacity))).pool (cond b (refused w.books w.pool 13) (settled_at w.books w.pool bytes capacity (chosen w.books w.state.numbers (length w.pool) capacity))).books bytes k.0
+      go : (b : Bool) → ltb capacity (length bytes) ≡ b → (cond b (refused w.books w.pool 13) (settled_at w.books w.pool bytes capacity (chosen w.books w.state.numbers (length w.pool) capacity))).answer ≡ Ok k → NewlyHeld (cond b (refused w.books w.pool 13) (settled_at w.books w.pool bytes capacity (chosen w.books w.state.numbers (length w.pool) capacity))).pool (cond b (refused w.books w.pool 13) (settled_at w.books w.pool bytes capacity (chosen w.books w.state.numbers (length w.pool) capacity))).books bytes k.0
       go true h z = absurd (no_number 13 k z)
       go false h z = chose (ltb-false capacity (length bytes) h) (chosen w.books w.state.numbers (length w.pool) capacity) refl z
 
@@ -318,9 +317,9 @@ pub register_same : {w : World} → Between w → (bytes : List ℕ) (capacity :
 unfolding registered
 register_same {w} g bytes capacity = go (ltb capacity (length bytes)) refl
   where
-    chose : length bytes ≤ capacity → (x : Chosen) → chosen w.books w.state.numbers (length w.pool) capacity ≡ x → SameRows w (in_memory w (settled_at w.books w.pool bytes capacity x).pool (settled_at w.books w.pool bytes capacity x).books)
-    chose l (Chosen.Refused n) e = same_self g
-    chose l (Chosen.At r) e = taken-same g bytes capacity l r (room_says w.books w.state.numbers (length w.pool) capacity r e)
+    chose : length bytes ≤ capacity → (x : Result Room ℕ) → chosen w.books w.state.numbers (length w.pool) capacity ≡ x → SameRows w (in_memory w (settled_at w.books w.pool bytes capacity x).pool (settled_at w.books w.pool bytes capacity x).books)
+    chose l (Err n) e = same_self g
+    chose l (Ok r) e = taken-same g bytes capacity l r (room_says w.books w.state.numbers (length w.pool) capacity r e)
 
     go : (b : Bool) → ltb capacity (length bytes) ≡ b → SameRows w (in_memory w (cond b (refused w.books w.pool 13) (settled_at w.books w.pool bytes capacity (chosen w.books w.state.numbers (length w.pool) capacity))).pool (cond b (refused w.books w.pool 13) (settled_at w.books w.pool bytes capacity (chosen w.books w.state.numbers (length w.pool) capacity))).books)
     go true h = same_self g

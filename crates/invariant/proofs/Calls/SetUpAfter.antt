@@ -15,7 +15,6 @@ use Rattle.sound.specs.SoundLaws.{sound_recount}
 use Rattle.sound.proofs.Kept.{empty_sound}
 use Rattle.tallies.specs.declared.Tally.{Tally}
 use Rattle.tallies.specs.Tally.{tally_of}
-use Rattle.state.specs.declared.OpenBlock.{OpenBlock}
 use Rattle.state.specs.World.{World, no_column, column_of}
 use Rattle.state.specs.Layout.{is_views, slots_length, books_length, list_length, rows_in, queued_slot}
 use Rattle.state.specs.Rows.{up_to, slot_rows, queued_batches, buffered_rows}
@@ -31,6 +30,7 @@ use Rattle.invariant.proofs.Rests.{reach_plain, reach-shut}
 use Rattle.invariant.proofs.CountLaws.{sum_zero}
 use Rattle.invariant.proofs.AloneLaws.{new_sixteen, not_open_lem}
 use Rattle.invariant.proofs.Steps.MoveLaws.{rows-filling, rows_other}
+use Rattle.std.specs.Prelude.{None}
 
 -- ---- bytes of zeros
 
@@ -55,7 +55,7 @@ zero_count n t = zero_word n _
 
 -- ---- columns
 
-new-column : (kinds : List ℕ) (n c : ℕ) → c < n → ((get_or (columns_for kinds n) c no_column).source ≡ fresh) × ((get_or (columns_for kinds n) c no_column).block ≡ OpenBlock.Closed)
+new-column : (kinds : List ℕ) (n c : ℕ) → c < n → ((get_or (columns_for kinds n) c no_column).source ≡ fresh) × ((get_or (columns_for kinds n) c no_column).block ≡ None)
 unfolding columns_for
 new-column kinds zero c h = absurd (omega arith)
 new-column [] (suc n) zero h = (refl, refl)
@@ -63,7 +63,7 @@ new-column [] (suc n) (suc c) h = new-column [] n c (omega arith)
 new-column (k ∷ ks) (suc n) zero h = (refl, refl)
 new-column (k ∷ ks) (suc n) (suc c) h = new-column ks n c (omega arith)
 
-column_of_lem : (a : Wanted) (c : ℕ) → c < 16 → ((column_of (new_state a) c).source ≡ fresh) × ((column_of (new_state a) c).block ≡ OpenBlock.Closed)
+column_of_lem : (a : Wanted) (c : ℕ) → c < 16 → ((column_of (new_state a) c).source ≡ fresh) × ((column_of (new_state a) c).block ≡ None)
 unfolding column_of new_state
 column_of_lem a c h = new-column a.kinds 16 c h
 
@@ -105,7 +105,7 @@ module _ (a : Wanted) (slots pool books : List ℕ) (ok : fits_set_up (record { 
   unfolding new_state
   none_buffered = refl
 
-  column : (c : ℕ) → c < (new_state a).columns → ((column_of (new_state a) c).source ≡ fresh) × ((column_of (new_state a) c).block ≡ OpenBlock.Closed)
+  column : (c : ℕ) → c < (new_state a).columns → ((column_of (new_state a) c).source ≡ fresh) × ((column_of (new_state a) c).block ≡ None)
   column c q = column_of_lem a c (omega (arith, bounds.columns))
 
   lengths : (slot c : ℕ) → list_length w slot c ≡ 0

@@ -11,13 +11,14 @@ use Rattle.words.specs.Word.{word32}
 use Rattle.blocks.specs.BlockLaws.{power_range}
 use Rattle.books.specs.Entry.{used_of, entry_of, is_free, is_free_at}
 use Rattle.pool.specs.Read.{fits_in, in_range}
-use Rattle.state.specs.declared.OpenBlock.{OpenBlock}
 use Rattle.state.specs.World.{World, column_of}
 use Rattle.state.specs.Layout.{is_views, list_place, list_length}
 use Rattle.state.specs.Rows.{listed_at}
 use Rattle.rules.specs.Ranges.{between, fits_set_up, is_block, has_open, block_in_range, column_in_range, list_in_range, slot_in_range, state_in_range, tested}
 use Rattle.invariant.specs.Holding.{HasOpen, Holding, Between}
 use Rattle.invariant.proofs.AloneLaws.{open_below, open_live}
+use Rattle.std.specs.Prelude.{Option, Some, None}
+use Rattle.counts.specs.declared.BufferNumber.{BufferNumber}
 
 module _ {w : World} {ext : ℕ → ℕ} (a : Holding w ext) where
   fits : fits_set_up w ≡ true
@@ -44,10 +45,10 @@ module _ {w : World} {ext : ℕ → ℕ} (a : Holding w ext) where
       first : (c k : ℕ) → HasOpen w.state c k → (d : ℕ) → d < c → not (has_open w.state k d) ≡ true
       first c k o d l = go (is_views w.state d) refl (column_of w.state d).block refl
         where
-          go : (v : Bool) → is_views w.state d ≡ v → (b : OpenBlock) → (column_of w.state d).block ≡ b → not (v && is_block k b) ≡ true
+          go : (v : Bool) → is_views w.state d ≡ v → (b : Option BufferNumber) → (column_of w.state d).block ≡ b → not (v && is_block k b) ≡ true
           go false v b e = refl
-          go true v OpenBlock.Closed e = refl
-          go true v (OpenBlock.Number j) e = by_number (ℕ_discrete j.0 k)
+          go true v None e = refl
+          go true v (Some j) e = by_number (ℕ_discrete j.0 k)
             where
               by_number : Dec (j.0 ≡ k) → not (eqb j.0 k) ≡ true
               by_number (no n) = rw (ne_eqb j.0 k n)
@@ -55,13 +56,13 @@ module _ {w : World} {ext : ℕ → ℕ} (a : Holding w ext) where
                   let p : HasOpen w.state d k = record { column = omega (arith, o.column); views = v; block = rw (← y) e } in
                   absurd (omega (arith, a.alone.alone c d k o p))
 
-      block : (c : ℕ) → c < w.state.columns → is_views w.state c ≡ true → (o : OpenBlock) → (column_of w.state c).block ≡ o → block_in_range w.state w.books (list_length w w.state.place c) c o ≡ true
-      block c q y (OpenBlock.Number k) e =
+      block : (c : ℕ) → c < w.state.columns → is_views w.state c ≡ true → (o : Option BufferNumber) → (column_of w.state c).block ≡ o → block_in_range w.state w.books (list_length w w.state.place c) c o ≡ true
+      block c q y (Some k) e =
           let o : HasOpen w.state c k.0 = record { column = q; views = y; block = e } in
           both (lt-ltb _ _ (open_below a c k.0 o))
           (both (free k.0 (a.run.block c k q y e) (open_live a c k.0 o))
           (both (lt-ltb _ _ (a.run.room c k q y e)) (every_is (λ d. not (has_open w.state k.0 d)) c (first c k.0 o))))
-      block c q y OpenBlock.Closed e = refl
+      block c q y None e = refl
 
       by_views : (c : ℕ) → c < w.state.columns → (b : Bool) → is_views w.state c ≡ b → cond (is_views w.state c) (between 4096 (column_of w.state c).source.current.0 1048576 && block_in_range w.state w.books (list_length w w.state.place c) c (column_of w.state c).block) true ≡ true
       by_views c q true y =

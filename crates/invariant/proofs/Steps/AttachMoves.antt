@@ -20,7 +20,6 @@ use Rattle.sound.proofs.ListKept.{Relisted, listed_all_filled, listed_all_entry}
 use Rattle.tallies.specs.Tally.{tally_of, with_tally}
 use Rattle.tallies.specs.TallyLaws.{tally-same, entry-with_tally, framed_tally}
 use Rattle.state.specs.declared.BatchCoalescer.{BatchCoalescer}
-use Rattle.state.specs.declared.OpenBlock.{OpenBlock}
 use Rattle.state.specs.World.{World, column_of}
 use Rattle.state.specs.Layout.{width_of, is_views, bitmap_bytes, bitmap_place, tally, list_place, cell_place, list_length, rows_in}
 use Rattle.state.proofs.LayoutLaws.{bits_fit, entries_fit, bitmap_follows, list_follows, column_in_lem}
@@ -50,6 +49,7 @@ use Rattle.invariant.proofs.Steps.MoveLaws.{Remains, remains_moves, live_stands,
 use Rattle.invariant.proofs.SlotLaws.{agrees_bit, entry_views}
 use Rattle.invariant.proofs.Steps.OneList.{Elsewhere, by_slot, by_column, OneList, elsewhere_reach, one_listings, one_lists}
 use Rattle.invariant.specs.Steps.TallyMoves.{tally_sound, tally-filled, tally-kept}
+use Rattle.std.specs.Prelude.{None}
 
 -- ---- how often a number stands in a list
 
@@ -95,7 +95,7 @@ list_of_bytes b c z = bytes_read (record_of b c).list (4 * (record_of b c).count
 
 -- ---- a column of views
 
-module _ {w : World} {ext : ℕ → ℕ} (b : Batch) (c : ℕ) (a : Holding w ext) (x : ColumnReads w b c) (q : c < w.state.columns) (y : is_views w.state c ≡ true) (o : (column_of w.state c).block ≡ OpenBlock.Closed) (h : list_length w w.state.place c + (record_of b c).count ≤ w.state.lists) where
+module _ {w : World} {ext : ℕ → ℕ} (b : Batch) (c : ℕ) (a : Holding w ext) (x : ColumnReads w b c) (q : c < w.state.columns) (y : is_views w.state c ≡ true) (o : (column_of w.state c).block ≡ None) (h : list_length w w.state.place c + (record_of b c).count ≤ w.state.lists) where
   abbrev place : ℕ
   place = w.state.place
 

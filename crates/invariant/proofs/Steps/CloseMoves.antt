@@ -11,7 +11,6 @@ use Rattle.books.specs.Entry.{entry_of, is_free}
 use Rattle.sound.specs.Sound.{Sound}
 use Rattle.sound.specs.SoundLaws.{sound_recount}
 use Rattle.state.specs.declared.Column.{Column}
-use Rattle.state.specs.declared.OpenBlock.{OpenBlock}
 use Rattle.state.specs.World.{World, column_of}
 use Rattle.state.specs.Layout.{tally, width_of, is_views, list_place, cell_place, list_length, rows_in}
 use Rattle.state.proofs.LayoutLaws.{bits_fit, list_in}
@@ -38,6 +37,7 @@ use Rattle.invariant.proofs.Steps.MoveLaws.{Remains, remains_moves, live_stands,
 use Rattle.invariant.proofs.SlotLaws.{cell_agrees, bit_agrees, entry_agrees, entry_views}
 use Rattle.invariant.proofs.Steps.OneList.{Elsewhere, by_slot, by_column, OneList, one_listings, one_lists}
 use Rattle.invariant.specs.Steps.TallyMoves.{tally_sound, tally-filled, counting-rows, counting-length, counting_length_here}
+use Rattle.std.specs.Prelude.{None}
 
 module _ {w : World} {ext : ℕ → ℕ} (c : ℕ) (a : Holding w ext) (q : c < w.state.columns) (y : is_views w.state c ≡ true) (o : is_open w c ≡ true) where
   abbrev place : ℕ
@@ -60,7 +60,7 @@ module _ {w : World} {ext : ℕ → ℕ} (c : ℕ) (a : Holding w ext) (q : c < 
 
   -- the world with the block closed
   abbrev shut : World
-  shut = in_state (counting put place (c + 1) (len + 1)) (with_column w.state c (column_of w.state c).source OpenBlock.Closed)
+  shut = in_state (counting put place (c + 1) (len + 1)) (with_column w.state c (column_of w.state c).source None)
 
   room : len < w.state.lists
   room = open_room c a.run q y o
@@ -109,7 +109,7 @@ module _ {w : World} {ext : ℕ → ℕ} (c : ℕ) (a : Holding w ext) (q : c < 
 
   shut-entry : (slot d i : ℕ) → listed_at shut slot d i ≡ word32 written (list_place w.state slot d + 4 * i)
   unfolding listed_at counting list_length
-  shut-entry slot d i = ap (λ (k : ℕ). word32 written (k + 4 * i)) (same_list_place (same-column w.state c (column_of w.state c).source OpenBlock.Closed) slot d)
+  shut-entry slot d i = ap (λ (k : ℕ). word32 written (k + 4 * i)) (same_list_place (same-column w.state c (column_of w.state c).source None) slot d)
 
   old_entry : (slot d i : ℕ) → slot ≤ w.state.queue → d < w.state.columns → i < list_length w slot d → (slot ≡ place → d ≡ c → i < len) → listed_at shut slot d i ≡ listed_at w slot d i
   unfolding listed_at
@@ -128,16 +128,16 @@ module _ {w : World} {ext : ℕ → ℕ} (c : ℕ) (a : Holding w ext) (q : c < 
       ∙ word32-same w.slots at number (omega (arith, list_in w.state place c a.run.fit.place q len y room, a.run.fit.slots_are)) small
 
   -- columns
-  shut_block : (column_of shut.state c).block ≡ OpenBlock.Closed
-  shut_block = ap (λ (x : Column). x.block) (column-new w.state c (column_of w.state c).source OpenBlock.Closed y)
+  shut_block : (column_of shut.state c).block ≡ None
+  shut_block = ap (λ (x : Column). x.block) (column-new w.state c (column_of w.state c).source None y)
 
   other_block : (d : ℕ) → d ≢ c → (column_of shut.state d).block ≡ (column_of w.state d).block
   other_block d n =
-      column_cases w.state c (column_of w.state c).source OpenBlock.Closed d (λ (x : Column). x.block ≡ (column_of w.state d).block) (λ e. absurd (n e)) refl
+      column_cases w.state c (column_of w.state c).source None d (λ (x : Column). x.block ≡ (column_of w.state d).block) (λ e. absurd (n e)) refl
 
   shut-source : (d : ℕ) → (column_of shut.state d).source ≡ (column_of w.state d).source
   shut-source d =
-      column_cases w.state c (column_of w.state c).source OpenBlock.Closed d (λ (x : Column). x.source ≡ (column_of w.state d).source)
+      column_cases w.state c (column_of w.state c).source None d (λ (x : Column). x.source ≡ (column_of w.state d).source)
       (λ e. ap (λ (k : ℕ). (column_of w.state k).source) (sym e)) refl
 
   beside : Beside w shut
@@ -225,7 +225,7 @@ module _ {w : World} {ext : ℕ → ℕ} (c : ℕ) (a : Holding w ext) (q : c < 
         sound = sound_recount (listings shut) sound_here (λ k l. omega (arith, one_listings one a.run.fit.place q k, times_same w shut place c k reach_here number_here));
         listed = λ slot d i p r h. listed_then slot d i p r h (ℕ_discrete slot place) (ℕ_discrete d c);
         sizes = λ d r v. rw (shut-source d) (a.sizes d r v);
-        sixteen = column-length w.state c (column_of w.state c).source OpenBlock.Closed ∙ a.sixteen;
+        sixteen = column-length w.state c (column_of w.state c).source None ∙ a.sixteen;
         alone = alone_one c beside.set_up other_block (λ d k n p g. not_open_lem (record { 0 = k }) (sym shut_block ∙ p.block)) a.alone;
         unheld = unheld_on a shut.state shut.books open_was (λ k l h z. relisted_hold (relisted k l) z);
         rows = λ slot p. shut-rows slot;

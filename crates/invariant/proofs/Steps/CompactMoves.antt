@@ -23,7 +23,6 @@ use Rattle.views.specs.declared.View.{View}
 use Rattle.views.specs.View.{is_inline, is_valid, long_length, repointed}
 use Rattle.views.specs.StoreLaws.{ViewWords, view-fits}
 use Rattle.views.specs.ShowLaws.{keeps_repointed, repoint_inline, repoint-long, long-says, long-some, long-none}
-use Rattle.state.specs.declared.OpenBlock.{OpenBlock}
 use Rattle.state.specs.World.{World, column_of}
 use Rattle.state.specs.Layout.{is_views, list_length}
 use Rattle.state.specs.Rows.{buffer_at}
@@ -50,6 +49,8 @@ use Rattle.invariant.proofs.Steps.Stored.{Stored, stored_extends}
 use Rattle.invariant.specs.PutLaws.{long_grows, bytes_framed, bytes-agree}
 use Rattle.invariant.proofs.Steps.RaiseMoves.{put, put_moves, put_still, put_view}
 use Rattle.invariant.proofs.Steps.EntryMoves.{in_memory, memory-reach, memory-number, memory_still, memory_remains}
+use Rattle.std.specs.Prelude.{Option, Some, None}
+use Rattle.counts.specs.declared.BufferNumber.{BufferNumber}
 
 repointed-fits : (index offset : ℕ) (v : View) → ViewWords v → index < 2 ^ 32 → (12 < v.length → offset < 2 ^ 32) → ViewWords (repointed index offset v)
 repointed-fits index offset v f i g = go (dec_lt 12 v.length)
@@ -203,9 +204,9 @@ module _ {w : World} {ext : ℕ → ℕ} (b : Batch) (c from n : ℕ) (a : Holdi
   unfolding open_number
   is_open_lem = record { column = q; views = y; block = number_of (column_of w.state c).block o }
     where
-      number_of : (z : OpenBlock) → has_block z ≡ true → z ≡ OpenBlock.Number (record { 0 = block_number z })
-      number_of (OpenBlock.Number n) e = refl
-      number_of OpenBlock.Closed e = absurd (true≢false (sym e))
+      number_of : (z : Option BufferNumber) → has_block z ≡ true → z ≡ Some (record { 0 = block_number z })
+      number_of (Some n) e = refl
+      number_of None e = absurd (true≢false (sym e))
 
   unheld_here : Unheld w.state books'
   unheld_here = unheld_on a w.state books' (λ d j p. p) (λ j l h z. hold j z (ℕ_discrete j k))

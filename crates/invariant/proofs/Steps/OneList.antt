@@ -2,7 +2,6 @@
 use Rattle.std.specs.Prelude.{ℕ, ◌+◌, ◌≤◌, ◌<◌, ◌≡◌, refl, ◌≢◌, Bool, true, false, cond, eqb}
 use Rattle.std.proofs.Common.{sym, ◌∙◌, ap, arith, ne_eqb}
 use Rattle.std.proofs.Math.Decide.{dec_lt, ℕ_discrete}
-use Rattle.state.specs.declared.OpenBlock.{OpenBlock}
 use Rattle.state.specs.World.{World, column_of}
 use Rattle.state.specs.Layout.{is_views, list_length}
 use Rattle.state.specs.Rows.{listed_at}
@@ -12,6 +11,8 @@ use Rattle.rules.specs.SameLaws.{same_views}
 use Rattle.invariant.specs.Holding.{reach, number_at, times_in, listings}
 use Rattle.invariant.proofs.Rests.{Lists, reach_plain, reach_other, number-listed, number_open}
 use Rattle.invariant.proofs.CountLaws.{times_same, listings_change}
+use Rattle.std.specs.Prelude.{Option}
+use Rattle.counts.specs.declared.BufferNumber.{BufferNumber}
 
 -- not the list of column c of the slot being filled
 pub data Elsewhere (w : World) (c slot d : ℕ) : Type 0 where
@@ -42,7 +43,7 @@ module _ {w v : World} {c : ℕ} (o : OneList w v c) (slot d : ℕ) (p : slot �
     where
       opening : Elsewhere w c slot d → opens (eqb slot w.state.place) (is_open v d) ≡ opens (eqb slot w.state.place) (is_open w d)
       opening (by_slot z) = rw (ne_eqb slot w.state.place z)
-      opening (by_column z) = ap (λ (k : OpenBlock). opens (eqb slot w.state.place) (has_block k)) (o.blocks d z)
+      opening (by_column z) = ap (λ (k : Option BufferNumber). opens (eqb slot w.state.place) (has_block k)) (o.blocks d z)
 
   pub elsewhere_number : Elsewhere w c slot d → (i : ℕ) → i < reach w slot d → number_at v slot d i ≡ number_at w slot d i
   unfolding open_number

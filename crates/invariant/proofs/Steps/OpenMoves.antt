@@ -26,11 +26,9 @@ use Rattle.sound.specs.Top.{no_free}
 use Rattle.tallies.specs.Tally.{tally_of}
 use Rattle.tallies.specs.TallyLaws.{framed_tally}
 use Rattle.room.specs.declared.Room.{Room}
-use Rattle.room.specs.declared.Chosen.{Chosen}
 use Rattle.room.specs.Room.{chosen, entry_at, taken_for, opened_as, opened}
 use Rattle.room.specs.RoomLaws.{Found-room, room_says, sound_block}
 use Rattle.state.specs.declared.Column.{Column}
-use Rattle.state.specs.declared.OpenBlock.{OpenBlock}
 use Rattle.state.specs.World.{World, column_of}
 use Rattle.state.specs.Layout.{is_views, tally, list_length, rows_in}
 use Rattle.state.specs.Rows.{listed_at}
@@ -55,6 +53,7 @@ use Rattle.invariant.proofs.PoolLaws.{relisted_is, books_stay}
 use Rattle.invariant.specs.Steps.Moves.{Moves, BitsStill}
 use Rattle.invariant.proofs.Steps.MoveLaws.{Remains, remains_moves, live_stands}
 use Rattle.invariant.proofs.Steps.OneList.{OneList, one_listings, one_lists}
+use Rattle.std.specs.Prelude.{Some, Result, Ok, Err}
 
 -- the rows of a slot, where books change within their entries
 pub same_rows_in : (w v : World) → SameSetUp w.state v.state → Framed 0 (4 + 20 * w.state.numbers) w.books v.books → (slot : ℕ) → rows_in v slot ≡ rows_in w slot
@@ -74,7 +73,7 @@ module _ (w : World) (c min : ℕ) where
   booked room = taken w.books room.number.0 (entry_at room.start size 0 0 1)
 
   abbrev opened_with : Room → World
-  opened_with room = in_state (in_books w (booked room)) (with_column w.state c source (OpenBlock.Number room.number))
+  opened_with room = in_state (in_books w (booked room)) (with_column w.state c source (Some room.number))
 
   record Anew (v : World) : Type 0 where
     room : Room
@@ -90,9 +89,9 @@ module _ (w : World) (c min : ℕ) where
       (rw (sound_block w.books w.state.numbers (length w.pool) size r) (go (chosen w.books w.state.numbers (length w.pool) size) refl)))
       (λ l. refused (one_of (10 ∷ 11 ∷ 12 ∷ []) 10 tt))
     where
-      go : (x : Chosen) → chosen w.books w.state.numbers (length w.pool) size ≡ x → Holds Anew (Among (11 ∷ 12 ∷ [])) (opening w c min (taken_for w.books size 0 1 x))
-      go (Chosen.Refused n) e = refused (chosen-among w.books w.state.numbers (length w.pool) size n e)
-      go (Chosen.At room) e = held (record { room = room; found = room_says w.books w.state.numbers (length w.pool) size room e; is = refl })
+      go : (x : Result Room ℕ) → chosen w.books w.state.numbers (length w.pool) size ≡ x → Holds Anew (Among (11 ∷ 12 ∷ [])) (opening w c min (taken_for w.books size 0 1 x))
+      go (Err n) e = refused (chosen-among w.books w.state.numbers (length w.pool) size n e)
+      go (Ok room) e = held (record { room = room; found = room_says w.books w.state.numbers (length w.pool) size room e; is = refl })
 
 module _ {w : World} {ext : ℕ → ℕ} (c min : ℕ) (a : Holding w ext) (q : c < w.state.columns) (y : is_views w.state c ≡ true) (o : is_open w c ≡ false) (room : Room) (f : Found-room w.books w.state.numbers (length w.pool) (size w c min) room) (b : Beside w (opened_with w c min room)) where
   abbrev v : World
@@ -156,8 +155,8 @@ module _ {w : World} {ext : ℕ → ℕ} (c min : ℕ) (a : Holding w ext) (q : 
   unfolding listed_at
   entries slot d i = ap (λ (x : ℕ). word32 w.slots (x + 4 * i)) (same_list_place b.set_up slot d)
 
-  block : (column_of v.state c).block ≡ OpenBlock.Number room.number
-  block = ap (λ (x : Column). x.block) (column-new w.state c (source w c min) (OpenBlock.Number room.number) y)
+  block : (column_of v.state c).block ≡ Some room.number
+  block = ap (λ (x : Column). x.block) (column-new w.state c (source w c min) (Some room.number) y)
 
   one : OneList w v c
   one =
@@ -166,7 +165,7 @@ module _ {w : World} {ext : ℕ → ℕ} (c min : ℕ) (a : Holding w ext) (q : 
         lengths = λ slot d p r z. lengths slot d;
         words = λ slot d i p r z h. entries slot d i;
         blocks = λ d n.
-            column_cases w.state c (source w c min) (OpenBlock.Number room.number) d (λ (x : Column). x.block ≡ (column_of w.state d).block) (λ z. absurd (n z)) refl;
+            column_cases w.state c (source w c min) (Some room.number) d (λ (x : Column). x.block ≡ (column_of w.state d).block) (λ z. absurd (n z)) refl;
       }
 
   reach_was : reach w place c ≡ len
@@ -204,7 +203,7 @@ module _ {w : World} {ext : ℕ → ℕ} (c min : ℕ) (a : Holding w ext) (q : 
   sizes_here : (d : ℕ) → d < w.state.columns → is_views w.state d ≡ true → Power (column_of v.state d).source.current.0
   unfolding asked
   sizes_here d r z =
-      column_cases w.state c (source w c min) (OpenBlock.Number room.number) d (λ (x : Column). Power x.source.current.0)
+      column_cases w.state c (source w c min) (Some room.number) d (λ (x : Column). Power x.source.current.0)
       (λ n. kept_power (column_of w.state c).source.current.0 min (a.sizes c q y))
       (a.sizes d r z)
 
@@ -241,7 +240,7 @@ module _ {w : World} {ext : ℕ → ℕ} (c min : ℕ) (a : Holding w ext) (q : 
         sound = sound_recount (listings v) gone (λ j l. counts j);
         listed = λ slot d i p r h. rw (entries slot d i) (a.listed slot d i p r (omega (arith, lengths slot d)));
         sizes = sizes_here;
-        sixteen = column-length w.state c (source w c min) (OpenBlock.Number room.number) ∙ a.sixteen;
+        sixteen = column-length w.state c (source w c min) (Some room.number) ∙ a.sixteen;
         alone = alone_one c b.set_up one.blocks (λ d j n p g. new_open j p d g) a.alone;
         unheld = unheld_here;
         rows = λ slot p. same_rows_in w v b.set_up changed.framed slot;

@@ -11,7 +11,6 @@ use Rattle.books.specs.Entry.{entry_of, is_free}
 use Rattle.listings.specs.Listing.{over_list}
 use Rattle.sound.specs.SoundLaws.{sound_recount}
 use Rattle.tallies.specs.TallyLaws.{entry-with_tally}
-use Rattle.state.specs.declared.OpenBlock.{OpenBlock}
 use Rattle.state.specs.World.{World, column_of}
 use Rattle.state.specs.Layout.{is_views, tally, list_place, list_length}
 use Rattle.state.specs.Rows.{listed_at}
@@ -29,6 +28,8 @@ use Rattle.invariant.specs.Steps.Moves.{more, Moves, BitsStill}
 use Rattle.invariant.proofs.PoolLaws.{relisted_is, books_stay, unheld_on}
 use Rattle.invariant.proofs.Steps.MoveLaws.{Remains, remains_moves, live_stands}
 use Rattle.invariant.specs.Steps.TallyMoves.{tally_sound, tally-filled, counting-rows, counting-length, counting_length_here}
+use Rattle.std.specs.Prelude.{Option, Some, None}
+use Rattle.counts.specs.declared.BufferNumber.{BufferNumber}
 
 -- ---- a column that lists nothing
 
@@ -43,12 +44,12 @@ unfolding read
 nothing_read at s = refl
 
 -- reach 0 of a column of views: no list, and no block
-pub empty-list : (w : World) (c : ℕ) → is_views w.state c ≡ true → reach w w.state.place c ≡ 0 → (list_length w w.state.place c ≡ 0) × ((column_of w.state c).block ≡ OpenBlock.Closed)
+pub empty-list : (w : World) (c : ℕ) → is_views w.state c ≡ true → reach w w.state.place c ≡ 0 → (list_length w w.state.place c ≡ 0) × ((column_of w.state c).block ≡ None)
 empty-list w c y e = go (column_of w.state c).block refl
   where
-    go : (o : OpenBlock) → (column_of w.state c).block ≡ o → (list_length w w.state.place c ≡ 0) × ((column_of w.state c).block ≡ OpenBlock.Closed)
-    go (OpenBlock.Number k) p = absurd (omega (arith, reach_open w w.state.place c y refl (ap has_block p)))
-    go OpenBlock.Closed p = (omega (arith, reach-shut w w.state.place c y (ap has_block p)), p)
+    go : (o : Option BufferNumber) → (column_of w.state c).block ≡ o → (list_length w w.state.place c ≡ 0) × ((column_of w.state c).block ≡ None)
+    go (Some k) p = absurd (omega (arith, reach_open w w.state.place c y refl (ap has_block p)))
+    go None p = (omega (arith, reach-shut w w.state.place c y (ap has_block p)), p)
 
 module _ {w : World} {ext : ℕ → ℕ} (b : Batch) (c : ℕ) (a : Holding w ext) (x : ColumnReads w b c) (q : c < w.state.columns) (n : is_views w.state c ≡ false) where
   abbrev place : ℕ

@@ -6,7 +6,6 @@ use Rattle.words.specs.Run.{read}
 use Rattle.sound.specs.Sound.{filled_bytes}
 use Rattle.views.specs.View.{view_of}
 use Rattle.views.specs.StoreLaws.{agrees_view}
-use Rattle.state.specs.declared.OpenBlock.{OpenBlock}
 use Rattle.state.specs.World.{World, column_of}
 use Rattle.state.specs.Layout.{width_of, is_views, cell_place, list_length}
 use Rattle.state.proofs.LayoutLaws.{views_width}
@@ -25,6 +24,7 @@ use Rattle.invariant.proofs.Steps.ValueMoves.{values_moves, values_still, values
 use Rattle.invariant.proofs.Steps.RaiseMoves.{extends_after}
 use Rattle.invariant.proofs.Steps.PlainMoves.{empty-list, plain_moves, plain_still, plain_slots, plain_reach}
 use Rattle.invariant.proofs.Steps.AttachMoves.{attached_moves, attached_still, attached_reach, attached_number, attached_cell, attached_elsewhere}
+use Rattle.std.specs.Prelude.{None}
 
 -- ---- values as they stand, then the list, in a column that has neither
 
@@ -94,7 +94,7 @@ module _ {w : World} {ext : ℕ → ℕ} (b : Batch) (c : ℕ) (a : Holding w ex
       at_place : v.state.place ≡ w.state.place
       at_place = v_moves.beside.place
 
-      nothing : (list_length v v.state.place c ≡ 0) × ((column_of v.state c).block ≡ OpenBlock.Closed)
+      nothing : (list_length v v.state.place c ≡ 0) × ((column_of v.state c).block ≡ None)
       nothing = empty-list v c y' (ap (λ (k : ℕ). reach v k c) at_place ∙ v-reach c ∙ empty)
 
       fits : list_length v v.state.place c + (record_of b c).count ≤ v.state.lists

@@ -3,11 +3,12 @@ use Rattle.std.specs.Prelude.{ℕ, ◌≡◌, List}
 use Rattle.std.proofs.Math.Bool.{true}
 use Rattle.words.specs.WordLaws.{Bytes}
 use Rattle.sound.specs.Sound.{filled_bytes}
-use Rattle.pool.specs.declared.Registered.{Registered}
 use Rattle.pool.specs.Register.{is_held}
 use Rattle.state.specs.World.{World}
 use Rattle.state.specs.Rows.{queued_batches, buffered_rows}
 use Rattle.invariant.specs.Holding.{Between}
+use Rattle.std.specs.Prelude.{Result, Ok, Err}
+use Rattle.counts.specs.declared.BufferNumber.{BufferNumber}
 
 -- the same state: between calls still, with the rows that there were
 pub record SameRows (w v : World) : Type 0 where
@@ -22,6 +23,6 @@ pub record NewlyHeld (pool books bytes : List ℕ) (k : ℕ) : Type 0 where
   pub filled : filled_bytes books pool k ≡ bytes
 
 -- the number that registering answered
-abbrev pub number_of : Registered → ℕ
-number_of (Registered.Number k) = k.0
-number_of (Registered.Refused n) = 0
+abbrev pub number_of : Result BufferNumber ℕ → ℕ
+number_of (Ok k) = k.0
+number_of (Err n) = 0

@@ -13,8 +13,8 @@ list_number-requires c = (search (booked_few, rules), search (booked-place, rule
 pub with_column-requires : goal.with_column-requires
 with_column-requires c = search (booked-column, rules)
 
-pub returns-in-Closed : goal.returns-in-Closed
-returns-in-Closed c = search (shut_none, rules)
+pub returns-in-None : goal.returns-in-None
+returns-in-None c = search (shut_none, rules)
 
-pub returns-in-Number : goal.returns-in-Number
-returns-in-Number c = search (shut_one, rules)
+pub returns-in-Some : goal.returns-in-Some
+returns-in-Some c = search (shut_one, rules)

@@ -16,8 +16,8 @@ open_block-chosen-requires c = (search (booked_used, rules), search (booked_entr
 pub with_column-t-requires : goal.with_column-t-requires
 with_column-t-requires c = search (booked-column, rules)
 
-pub returns-in-Refused : goal.returns-in-Refused
-returns-in-Refused c = search (next-refused, rules)
+pub returns-in-Err : goal.returns-in-Err
+returns-in-Err c = search (next-refused, rules)
 
-pub returns-in-At : goal.returns-in-At
-returns-in-At c = search (next-done, rules)
+pub returns-in-Ok : goal.returns-in-Ok
+returns-in-Ok c = search (next-done, rules)

@@ -11,8 +11,8 @@ returns-then-capacity-bytes c = search (short, rules)
 pub register_at-requires : goal.register_at-requires
 register_at-requires c = (search (number_room, rules), search (number_few, rules), search (bytes_room, rules), omega arith)
 
-pub returns-in-Refused : goal.returns-in-Refused
-returns-in-Refused c = search (not_placed, rules)
+pub returns-in_err-r : goal.returns-in_err-r
+returns-in_err-r c = search (not_placed, rules)
 
-pub returns-in-At : goal.returns-in-At
-returns-in-At c = search (placed, rules)
+pub returns : goal.returns
+returns c = placed _ _ _ _ _ (omega (arith, c.if-capacity-bytes.false)) c.choose.ensures c.in_ok-r.was c.register_at.ensures

@@ -6,8 +6,8 @@ use Rattle.ranges.proofs.block_in_range.Goals as goal
 pub in_use-requires : goal.in_use-requires
 in_use-requires c = search (number_room, rules)
 
-pub returns-in-Closed : goal.returns-in-Closed
-returns-in-Closed c = search (block_closed, rules)
+pub returns-in-None : goal.returns-in-None
+returns-in-None c = search (block_closed, rules)
 
 pub returns-then-k-s : goal.returns-then-k-s
 returns-then-k-s c = search (block_is, rules)

@@ -3,8 +3,8 @@ use borrow.Author.Rules.{rules}
 use Rattle.ranges.specs.RangeLaws.{opens-closed, opens_other, opens_here}
 use Rattle.ranges.proofs.has_open.Goals as goal
 
-pub returns-in-Closed : goal.returns-in-Closed
-returns-in-Closed c = search (opens-closed, rules)
+pub returns-in-None : goal.returns-in-None
+returns-in-None c = search (opens-closed, rules)
 
 pub returns-then-j-k : goal.returns-then-j-k
 returns-then-j-k c = search (opens_here, rules)

@@ -16,11 +16,11 @@ try_block-chosen-requires c = search (trying_room, rules)
 pub with_column-t-requires : goal.with_column-t-requires
 with_column-t-requires c = search (trying_column, rules)
 
-pub returns-in-Refused : goal.returns-in-Refused
-returns-in-Refused c = (search (buffer_refused, rules), buffers_refused _ _ _ _ c.args.min c.if-n-s.true c.column_of-column.ensures c.next_size-next.ensures c.try_block-chosen.ensures (search rules))
+pub returns-in-Err : goal.returns-in-Err
+returns-in-Err c = (search (buffer_refused, rules), buffers_refused _ _ _ _ c.args.min c.if-n-s.true c.column_of-column.ensures c.next_size-next.ensures c.try_block-chosen.ensures (search rules))
 
-pub returns-in-At : goal.returns-in-At
-returns-in-At c = (search (buffer_opened, c.requires, c.if-n-s.true, c.column_of-column.ensures, c.next_size-next.ensures, c.try_block-chosen.ensures, c.with_column-t.ensures, rules), search (buffers_opened, c.if-n-s.true, c.column_of-column.ensures, c.next_size-next.ensures, c.try_block-chosen.ensures, c.with_column-t.ensures, rules))
+pub returns-in-Ok : goal.returns-in-Ok
+returns-in-Ok c = (search (buffer_opened, c.requires, c.if-n-s.true, c.column_of-column.ensures, c.next_size-next.ensures, c.try_block-chosen.ensures, c.with_column-t.ensures, rules), search (buffers_opened, c.if-n-s.true, c.column_of-column.ensures, c.next_size-next.ensures, c.try_block-chosen.ensures, c.with_column-t.ensures, rules))
 
 pub returns-else-n-s : goal.returns-else-n-s
 returns-else-n-s c = (column-none c.requires.trying, buffers_full _ _ _ c.if-n-s.false)
