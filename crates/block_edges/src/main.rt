@@ -32,7 +32,7 @@ const FRESH: [u64; 18] = [
 const TEN_ROWS: [u64; 3] = [10000, 10000, 10000];
 
 // The doubling of small asks up to the largest size, and past it.
-const SMALL: [u64; 10] = [1, 1, 1, 1, 1, 1, 1, 1, 1, 1];
+const SMALL: [u64; 10] = [1; 10];
 
 // A large ask, then a small one: the large one is not kept.
 const LARGE: [u64; 4] = [2000000, 1, 1048577, 1];

@@ -1,18 +1,18 @@
 -- The laws of block sizes: the loop a turn at a time, and the sizes that a history of asks keeps.
-use Rattle.std.specs.Prelude.{ℕ, zero, suc, ◌+◌, ◌*◌, ◌-◌, ◌^◌, ◌≤◌, ◌<◌, max, ◌≡◌, refl, ◌≢◌, Bool, true, false, cond, List, [], ◌∷◌, ltb, leb}
-use Rattle.std.proofs.Common.{sym, ap, ◌∙◌, arith, pow-suc, pow-add, ltb-true, ltb-false, leb-true, leb-false, le-ltb, lt-ltb, le-leb}
-use Rattle.std.specs.Prelude.{Option, None, Some}
+use Rattle.std.specs.Prelude.{ℕ, zero, suc, ◌+◌, ◌*◌, ◌^◌, ◌≤◌, ◌<◌, max, ◌≡◌, refl, Bool, true, false, cond, List, [], ◌∷◌, ltb, leb}
+use Rattle.std.proofs.Common.{sym, ap, ◌∙◌, arith, pow-suc, pow-add, ltb-true, ltb-false, leb-false, le-ltb, lt-ltb, le-leb}
+use Rattle.std.proofs.Math.Option.{Option, none, some}
 use Rattle.std.proofs.Math.Decide.{dec_lt}
 use Rattle.std.proofs.Math.Nat.{pow-le-pow_right}
 use Rattle.std.proofs.lemmas.Bool.{lt-leb}
 use Rattle.search.specs.Cases.{by_cond}
-use Rattle.search.specs.First.{first_from, first, Lowest}
+use Rattle.search.specs.First.{first, Lowest}
 use Rattle.search.specs.FirstLaws.{at_is, at-says, nothing-says}
 use Rattle.counts.specs.declared.ByteCount.{ByteCount}
 use Rattle.counts.specs.declared.ByteSum.{ByteSum}
 use Rattle.blocks.specs.declared.BufferSource.{BufferSource}
 use Rattle.blocks.specs.declared.NextSize.{NextSize}
-use Rattle.blocks.specs.Block.{top, keeping, next, fresh, doubled, enough, or_none, doublings, grown, kept, asked, after_asks}
+use Rattle.blocks.specs.Block.{top, next, fresh, doubled, enough, or_none, doublings, grown, kept, asked, after_asks}
 
 -- enough, as an order; and not enough
 enough_above : (size min j : ℕ) → min < size * 2 ^ j → enough size min j ≡ true

@@ -11,15 +11,9 @@ use counts::{BufferNumber, ByteSum};
 fn fits_in(e: Entry, pool: ByteSum) -> bool
     ensures { result ≡ fits_in pool.0 e }
 {
-    if (e.start as u64) + (e.capacity.0 as u64) <= pool.0 {
-        if e.length.0 <= e.capacity.0 {
-            e.hold <= 1
-        } else {
-            false
-        }
-    } else {
-        false
-    }
+    (e.start as u64) + (e.capacity.0 as u64) <= pool.0
+        && e.length.0 <= e.capacity.0
+        && e.hold <= 1
 }
 
 // 14's part about buffers: whether every buffer in use is in range, and no more numbers are in use than there are.
@@ -31,11 +25,8 @@ pub fn books_in_range(books: &[u8], n: u32, pool: ByteSum) -> bool
     if n < used {
         return false;
     }
-    let mut i: u32 = 0;
-    while i < used {
-        if fits_in(books::entry_at(books, BufferNumber(i)), pool) {
-            i += 1;
-        } else {
+    for i in 0..used {
+        if !fits_in(books::entry_at(books, BufferNumber(i)), pool) {
             return false;
         }
     }

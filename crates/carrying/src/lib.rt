@@ -1,34 +1,15 @@
 // Bytes copied within the pool, where source and target are both in it: what the Rust does with `Vec::extend_from_slice`.
 #![tactic(auto)]
 
-ghost use Rattle.std.specs.Prelude.{◌≡◌, ◌+◌, ◌≤◌, ◌<◌, length, set};
+ghost use Rattle.std.specs.Prelude.{◌≡◌, ◌+◌, ◌≤◌, length};
 ghost use Rattle.pool.specs.Carry.{carried};
-
-// The byte b at place i of a lent part.
-fn put(part: &mut [u8], i: usize, b: u8)
-    requires { i < length part.old }
-    ensures { part.new ≡ set part.old i b }
-{
-    part[i] = b;
-}
-
-// The byte b at place i of the part of the pool from `to` on, which is lent on.
-fn put_at(pool: &mut [u8], to: usize, i: usize, b: u8)
-    requires { to + i < length pool.old }
-    ensures { pool.new ≡ set pool.old (to + i) b }
-{
-    put(&mut pool[to..], i, b);
-}
 
 // The n bytes of the pool from `from` on copied to `to` on, the lowest first.
 pub fn carry(pool: &mut [u8], from: usize, to: usize, n: usize)
     requires { (from + n ≤ length pool.old) × (to + n ≤ length pool.old) }
     ensures { pool.new ≡ carried pool.old from to n }
 {
-    let mut i: usize = 0;
-    while i < n {
-        let b = pool[from + i];
-        put_at(pool, to, i, b);
-        i += 1;
+    for i in 0..n {
+        pool[to + i] = pool[from + i];
     }
 }

@@ -14,12 +14,10 @@ pub fn lowest_free(books: &[u8], n: u32) -> Option<BufferNumber>
     ensures { result ≡ lowest_free books.now n }
 {
     let used = words::get32(books, 0);
-    let mut i: u32 = 0;
-    while i < used {
+    for i in 0..used {
         if books::is_free(books::entry_at(books, BufferNumber(i))) {
             return Some(BufferNumber(i));
         }
-        i += 1;
     }
     if used < n {
         Some(BufferNumber(used))
@@ -38,8 +36,8 @@ fn past(e: Entry, at: u64, size: ByteSum) -> u64
     }
     let start = e.start as u64;
     let end = start + (e.capacity.0 as u64);
-    let from = counts::larger(start, at);
-    let to = counts::smaller(end, at + size.0);
+    let from = start.max(at);
+    let to = end.min(at + size.0);
     if from < to { end } else { at }
 }
 
@@ -50,10 +48,8 @@ fn sweep(books: &[u8], at: u64, size: ByteSum) -> u64
 {
     let used = words::get32(books, 0);
     let mut next = at;
-    let mut i: u32 = 0;
-    while i < used {
+    for i in 0..used {
         next = past(books::entry_at(books, BufferNumber(i)), next, size);
-        i += 1;
     }
     next
 }

@@ -11,7 +11,7 @@ use counts::BufferNumber;
 fn one_more(k: u32) -> u32
     ensures { result ≡ one_more k }
 {
-    if k < 4294967295 { k + 1 } else { k }
+    k.saturating_add(1)
 }
 
 // Number i is listed once more.
@@ -33,8 +33,6 @@ pub fn unlist_one(books: &mut [u8], i: BufferNumber)
     let k = words::get32(books, at);
     if 0 < k {
         words::put32(books, at, k - 1);
-        listings::free_unused(books, i);
-        return;
     }
     listings::free_unused(books, i);
 }
@@ -53,23 +51,20 @@ pub fn list_all(books: &mut [u8], n: u32, list: &[u8], count: usize)
     requires { Listed books.old n list.now count }
     ensures { books.new ≡ over_list listed_one books.old list.now count }
 {
-    let mut i: usize = 0;
-    while i < count {
+    for i in 0..count {
         let k = words::get32(list, 4 * i);
         list_one(books, BufferNumber(k));
-        i += 1;
     }
 }
 
 // Each of the first `count` numbers of the list is listed once less, as often as it stands there.
+// Kept: a twin of `list_all`; one function over the change would state what the change needs and makes, and be longer than both loops.
 pub fn unlist_all(books: &mut [u8], n: u32, list: &[u8], count: usize)
     requires { Listed books.old n list.now count }
     ensures { books.new ≡ over_list unlisted_one books.old list.now count }
 {
-    let mut i: usize = 0;
-    while i < count {
+    for i in 0..count {
         let k = words::get32(list, 4 * i);
         unlist_one(books, BufferNumber(k));
-        i += 1;
     }
 }

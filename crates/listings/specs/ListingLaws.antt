@@ -1,11 +1,11 @@
 -- The ways out of the functions, the turns of their loops, and what they leave of lengths and numbers in use.
-use Rattle.std.specs.Prelude.{ℕ, zero, suc, ◌+◌, ◌*◌, ◌-◌, ◌≤◌, ◌<◌, ◌^◌, min, ◌≡◌, Bool, true, false, cond, List, length, ltb}
+use Rattle.std.specs.Prelude.{ℕ, zero, suc, ◌+◌, ◌*◌, ◌-◌, ◌≤◌, ◌<◌, ◌^◌, ◌≡◌, Bool, true, false, List, length, ltb}
 use Rattle.std.proofs.Math.Path.{refl}
 use Rattle.std.proofs.Common.{sym, ◌∙◌, ap, arith, lt-ltb, le-ltb}
 use Rattle.std.proofs.Math.Numerals.{add-one}
 use Rattle.search.specs.Cases.{by_cond}
 use Rattle.words.specs.Word.{word32, with_word32}
-use Rattle.words.specs.WordLaws.{word32-same, word32_other, length-with_word32}
+use Rattle.words.specs.WordLaws.{word32-same, length-with_word32}
 use Rattle.words.specs.FrameLaws.{word_framed}
 use Rattle.books.specs.declared.Entry.{Entry}
 use Rattle.books.specs.Entry.{used_of, place, entry_of, with_entry, is_free}

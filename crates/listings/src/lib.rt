@@ -14,13 +14,9 @@ fn top_used(books: &[u8], used: u32) -> u32
     requires { 4 + 20 * used ≤ length books.now }
     ensures { result ≡ settled books.now used }
 {
-    let mut top = used;
-    while 0 < top {
-        let below = top - 1;
-        if books::is_free(books::entry_at(books, BufferNumber(below))) {
-            top = below;
-        } else {
-            return top;
+    for below in (0..used).rev() {
+        if !books::is_free(books::entry_at(books, BufferNumber(below))) {
+            return below + 1;
         }
     }
     0
@@ -53,7 +49,6 @@ pub fn take_entry(books: &mut [u8], i: BufferNumber, e: Entry)
     books::put_entry(books, i, e);
     if used <= i.0 {
         words::put32(books, 0, i.0 + 1);
-        return;
     }
 }
 
@@ -64,6 +59,5 @@ pub fn free_unused(books: &mut [u8], i: BufferNumber)
 {
     if books::is_free(books::entry_at(books, i)) {
         free_entry(books, i);
-        return;
     }
 }

@@ -23,7 +23,6 @@ fn wipe_one(books: &mut [u8], i: BufferNumber)
             listings: 0,
         };
         books::put_entry(books, i, none);
-        return;
     }
 }
 
@@ -33,10 +32,8 @@ pub fn end_trial(books: &mut [u8], used: u32)
     ensures { books.new ≡ untried books.old used }
 {
     let top = words::get32(books, 0);
-    let mut i: u32 = 0;
-    while i < top {
+    for i in 0..top {
         wipe_one(books, BufferNumber(i));
-        i += 1;
     }
     words::put32(books, 0, used);
 }

@@ -3,22 +3,15 @@
 #![tactic(auto)]
 
 ghost use Rattle.std.specs.Prelude.{◌≡◌, ◌+◌, ◌≤◌, length};
-ghost use Rattle.words.specs.Word.{word_of, word32, with_word32};
+ghost use Rattle.words.specs.Word.{word32, with_word32};
 ghost use Rattle.words.specs.Run.{read, put};
-
-// Four bytes as a word, the lowest first.
-fn pack(a: u8, b: u8, c: u8, d: u8) -> u32
-    ensures { result ≡ word_of a b c d }
-{
-    (a as u32) + (b as u32) * 256 + (c as u32) * 65536 + (d as u32) * 16777216
-}
 
 // The word at `at`.
 pub fn get32(s: &[u8], at: usize) -> u32
     requires { at + 4 ≤ length s.now }
     ensures { result ≡ word32 s.now at }
 {
-    pack(s[at], s[at + 1], s[at + 2], s[at + 3])
+    u32::from_le_bytes([s[at], s[at + 1], s[at + 2], s[at + 3]])
 }
 
 // The word v at `at`, and nothing else changed.
@@ -26,10 +19,7 @@ pub fn put32(s: &mut [u8], at: usize, v: u32)
     requires { at + 4 ≤ length s.old }
     ensures { s.new ≡ with_word32 s.old at v }
 {
-    s[at] = (v % 256) as u8;
-    s[at + 1] = (v / 256 % 256) as u8;
-    s[at + 2] = (v / 65536 % 256) as u8;
-    s[at + 3] = (v / 16777216) as u8;
+    s[at..at + 4].copy_from_slice(&v.to_le_bytes());
 }
 
 // The bytes of src at the front of dst, which is a part that its owner lends.
@@ -37,11 +27,7 @@ pub fn copy_into(dst: &mut [u8], src: &[u8])
     requires { length src.now ≤ length dst.old }
     ensures { dst.new ≡ put 0 src.now dst.old }
 {
-    let mut i: usize = 0;
-    while i < src.len() {
-        dst[i] = src[i];
-        i += 1;
-    }
+    dst[..src.len()].copy_from_slice(src);
 }
 
 // The bytes of src at `at` of dst, and nothing else changed: the part of dst from there on is lent on.

@@ -6,5 +6,5 @@ use Rattle.bit_runs.proofs.append_whole.Goals as goal
 pub returns-then-s-eq0 : goal.returns-then-s-eq0
 returns-then-s-eq0 c = search (whole-moved, rules)
 
-pub returns : goal.returns
-returns c = search (whole-moved, rules)
+pub returns-else-s-eq0 : goal.returns-else-s-eq0
+returns-else-s-eq0 c = search (whole-moved, rules)

@@ -1,8 +1,7 @@
 -- `bit_runs::shift_whole` meets its contract.
-use Prim.Native.Nat.{◌-◌}
 use borrow.Author.Rules.{rules}
 use Rattle.bits.specs.CodeLaws.{appended-none}
-use Rattle.bit_runs.specs.RunLaws.{shift_more, whole-all}
+use Rattle.bit_runs.specs.RunLaws.{shift_more}
 use Rattle.bit_runs.proofs.shift_whole.Goals as goal
 
 pub loop-i-init : goal.loop-i-init
@@ -10,6 +9,3 @@ loop-i-init c = search (appended-none, rules)
 
 pub loop-i-preserved : goal.loop-i-preserved
 loop-i-preserved c = search (shift_more, rules)
-
-pub returns : goal.returns
-returns c = search (whole-all, rules)

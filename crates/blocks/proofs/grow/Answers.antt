@@ -1,8 +1,7 @@
 -- `blocks::grow` meets its contract.
-use Prim.Native.Nat.{◌-◌}
 use native.Mathlib.Omega.{arith}
 use borrow.Author.Rules.{rules}
-use borrow.Author.Tests.{ltb-true, ltb-false}
+use borrow.Author.Tests.{ltb-true}
 use Rattle.blocks.specs.BlockLaws.{grown-turn, grown_min, grown-top}
 use Rattle.blocks.proofs.grow.Goals as goal
 
@@ -13,10 +12,10 @@ pub loop-s-smaller : goal.loop-s-smaller
 loop-s-smaller c = omega (arith, ltb-true)
 
 pub loop-s-preserved : goal.loop-s-preserved
-loop-s-preserved c = (omega (arith, ltb-true), omega (arith, ltb-true), search (grown-turn, ltb-true, rules))
+loop-s-preserved c = (omega (arith, ltb-true), omega (arith, ltb-true), search (grown-turn, rules))
 
 pub returns-else-s-lt-MAX_BLOCK_SIZE : goal.returns-else-s-lt-MAX_BLOCK_SIZE
-returns-else-s-lt-MAX_BLOCK_SIZE c = search (grown-top, ltb-false, rules)
+returns-else-s-lt-MAX_BLOCK_SIZE c = search (grown-top, rules)
 
 pub returns-after-loop-s : goal.returns-after-loop-s
-returns-after-loop-s c = search (grown_min, ltb-false, rules)
+returns-after-loop-s c = search (grown_min, rules)

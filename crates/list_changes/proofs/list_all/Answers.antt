@@ -1,5 +1,4 @@
 -- `list_changes::list_all` meets its contract.
-use Prim.Native.Nat.{◌-◌}
 use borrow.Author.Rules.{rules}
 use Rattle.listings.specs.ListingLaws.{over_none, over_more, over_all, listed_room}
 use Rattle.list_changes.proofs.list_all.Goals as goal

@@ -6,5 +6,5 @@ use Rattle.listings.proofs.free_unused.Goals as goal
 pub returns-then-is_free : goal.returns-then-is_free
 returns-then-is_free c = search (unused_is, rules)
 
-pub returns : goal.returns
-returns c = search (unused_not, rules)
+pub returns-else-is_free : goal.returns-else-is_free
+returns-else-is_free c = search (unused_not, rules)

@@ -6,5 +6,5 @@ use Rattle.listings.proofs.take_entry.Goals as goal
 pub returns-then-used-i : goal.returns-then-used-i
 returns-then-used-i c = search (taken_next, rules)
 
-pub returns : goal.returns
-returns c = search (taken_in_use, rules)
+pub returns-else-used-i : goal.returns-else-used-i
+returns-else-used-i c = search (taken_in_use, rules)

@@ -1,7 +1,8 @@
 -- `words::get32` meets its contract.
-use borrow.Author.Rules.{rules}
+use Rattle.words.specs.Word.{word_of}
 use Rattle.words.specs.WordLaws.{word_is}
 use Rattle.words.proofs.get32.Goals as goal
 
 pub returns : goal.returns
-returns c = search (word_is, rules)
+unfolding word_of
+returns c = word_is c.args.s.now c.args.at c.from_le_bytes.ensures
