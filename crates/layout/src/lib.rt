@@ -93,12 +93,8 @@ pub fn columns_bytes(s: BatchCoalescer, c: u32) -> usize
     ensures { (result ≡ columns_bytes s c) × (result ≤ 2109440 * c) }
 {
     let mut sum: usize = 0;
-    let mut i: u32 = 0;
-    while i < c {
-        let at = i as usize;
-        let column = s.column[at];
-        sum += column_size(column.kind, s.rows, s.lists);
-        i += 1;
+    for i in 0..c {
+        sum += column_size(s.column[i as usize].kind, s.rows, s.lists);
     }
     sum
 }

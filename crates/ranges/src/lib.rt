@@ -19,15 +19,11 @@ fn kinds_known(s: BatchCoalescer) -> bool
     requires { s.columns ≤ 16 }
     ensures { result ≡ kinds_known s }
 {
-    let mut c: u32 = 0;
-    while c < s.columns {
-        let at = c as usize;
-        let column = s.column[at];
-        let width = kinds::width_of(column.kind);
+    for c in 0..s.columns {
+        let width = kinds::width_of(s.column[c as usize].kind);
         let Width::Bytes(_) = width else {
             return false;
         };
-        c += 1;
     }
     true
 }
@@ -36,7 +32,7 @@ fn kinds_known(s: BatchCoalescer) -> bool
 fn between(low: u32, x: u32, high: u32) -> bool
     ensures { result ≡ Rattle.rules.specs.Ranges.between low x high }
 {
-    if low <= x { x <= high } else { false }
+    low <= x && x <= high
 }
 
 // Whether what set-up fixed is within 01's bounds.
@@ -71,12 +67,7 @@ fn in_use(books: &[u8], k: BufferNumber) -> bool
     requires { 24 + 20 * k.0 ≤ length books.now }
     ensures { result ≡ not (is_free_at books.now k.0) }
 {
-    if k.0 < words::get32(books, 0) {
-        let e = books::entry_at(books, k);
-        if books::is_free(e) { false } else { true }
-    } else {
-        false
-    }
+    k.0 < words::get32(books, 0) && !books::is_free(books::entry_at(books, k))
 }
 
 // Whether a column of views has block k open.
@@ -87,11 +78,7 @@ fn has_open(column: Column, k: BufferNumber) -> bool
     match block {
         OpenBlock::Closed => false,
         OpenBlock::Number(j) => {
-            if j.0 == k.0 {
-                kinds::is_view(column.kind)
-            } else {
-                false
-            }
+            j.0 == k.0 && kinds::is_view(column.kind)
         }
     }
 }
@@ -101,14 +88,10 @@ fn none_before(s: BatchCoalescer, c: u32, k: BufferNumber) -> bool
     requires { c ≤ 16 }
     ensures { result ≡ every (not_open s k.0) c }
 {
-    let mut d: u32 = 0;
-    while d < c {
-        let at = d as usize;
-        let column = s.column[at];
-        if has_open(column, k) {
+    for d in 0..c {
+        if has_open(s.column[d as usize], k) {
             return false;
         }
-        d += 1;
     }
     true
 }
@@ -121,11 +104,7 @@ fn block_in_range(s: BatchCoalescer, books: &[u8], list: u32, c: u32, block: Ope
     match block {
         OpenBlock::Closed => true,
         OpenBlock::Number(k) => {
-            if k.0 < s.numbers {
-                in_use(books, k) & ((list < s.lists) & none_before(s, c, k))
-            } else {
-                false
-            }
+            k.0 < s.numbers && in_use(books, k) && list < s.lists && none_before(s, c, k)
         }
     }
 }
@@ -152,13 +131,8 @@ fn columns_in_range(s: BatchCoalescer, books: &[u8]) -> bool
     requires { (Few s) × (s.place ≤ s.queue) × (length books.now ≡ books_length s) }
     ensures { result ≡ every (column_in_range (world s [] [] books.now)) s.columns }
 {
-    let mut c: u32 = 0;
-    while c < s.columns {
-        let at = c as usize;
-        let column = s.column[at];
-        if column_in_range(s, books, c, column) {
-            c += 1;
-        } else {
+    for c in 0..s.columns {
+        if !column_in_range(s, books, c, s.column[c as usize]) {
             return false;
         }
     }
@@ -170,11 +144,8 @@ fn words_below(s: &[u8], at: usize, count: u32, n: u32) -> bool
     requires { at + 4 * count ≤ length s.now }
     ensures { result ≡ below s.now at count n }
 {
-    let mut i: u32 = 0;
-    while i < count {
-        if words::get32(s, at + 4 * (i as usize)) < n {
-            i += 1;
-        } else {
+    for i in 0..count {
+        if n <= words::get32(s, at + 4 * (i as usize)) {
             return false;
         }
     }
@@ -209,11 +180,8 @@ fn slot_in_range(s: BatchCoalescer, slots: &[u8], books: &[u8], slot: u32) -> bo
     if s.rows.0 < slot_counts::rows_in(s, books, slot).0 {
         return false;
     }
-    let mut c: u32 = 0;
-    while c < s.columns {
-        if list_in_range(s, slots, books, slot, c) {
-            c += 1;
-        } else {
+    for c in 0..s.columns {
+        if !list_in_range(s, slots, books, slot, c) {
             return false;
         }
     }
@@ -224,11 +192,8 @@ fn slots_in_range(s: BatchCoalescer, slots: &[u8], books: &[u8]) -> bool
     requires { Sized s (length slots.now) (length books.now) }
     ensures { result ≡ every (slot_in_range (world s slots.now [] books.now)) (s.queue + 1) }
 {
-    let mut slot: u32 = 0;
-    while slot <= s.queue {
-        if slot_in_range(s, slots, books, slot) {
-            slot += 1;
-        } else {
+    for slot in 0..=s.queue {
+        if !slot_in_range(s, slots, books, slot) {
             return false;
         }
     }
