@@ -39,27 +39,23 @@ fn between(low: u32, x: u32, high: u32) -> bool
 pub fn in_bounds(s: BatchCoalescer) -> bool
     ensures { result ≡ in_bounds s }
 {
-    if s.columns <= 16 {
-        between(1, s.target.0, 65536)
-            & (between(s.target.0, s.rows.0, 65536)
-                & (between(1, s.queue, 1024)
-                    & (kinds_known(s)
-                        & (between(1, s.lists, 1024) & between(1, s.numbers, 65536)))))
-    } else {
-        false
-    }
+    s.columns <= 16
+        && (between(1, s.target.0, 65536)
+            & between(s.target.0, s.rows.0, 65536)
+            & between(1, s.queue, 1024)
+            & kinds_known(s)
+            & between(1, s.lists, 1024)
+            & between(1, s.numbers, 65536))
 }
 
 // 1: whether the set-up is within its bounds and the lent memories have its lengths.
 pub fn fits_set_up(s: BatchCoalescer, slots: usize, pool: usize, books: usize) -> bool
     ensures { result ≡ fits_lengths s slots pool books }
 {
-    if in_bounds(s) {
-        (slots == layout::slots_length(s))
-            & ((pool == (s.pool.0 as usize)) & (books == layout::books_length(s)))
-    } else {
-        false
-    }
+    in_bounds(s)
+        && ((slots == layout::slots_length(s))
+            & (pool == s.pool.0 as usize)
+            & (books == layout::books_length(s)))
 }
 
 // Whether number k is a buffer in use.
@@ -77,9 +73,7 @@ fn has_open(column: Column, k: BufferNumber) -> bool
     let block = column.block;
     match block {
         OpenBlock::Closed => false,
-        OpenBlock::Number(j) => {
-            j.0 == k.0 && kinds::is_view(column.kind)
-        }
+        OpenBlock::Number(j) => { j.0 == k.0 && kinds::is_view(column.kind) }
     }
 }
 
@@ -114,19 +108,15 @@ fn column_in_range(s: BatchCoalescer, books: &[u8], c: u32, column: Column) -> b
     requires { (Few s) × (s.place ≤ s.queue) × (c < s.columns) × (length books.now ≡ books_length s) × (column ≡ column_of s c) }
     ensures { result ≡ column_in_range (world s [] [] books.now) c }
 {
-    if kinds::is_view(column.kind) {
-        if between(4096, column.source.current.0, 1048576) {
-            let list = slot_counts::list_length(s, books, s.place, c);
-            let block = column.block;
-            block_in_range(s, books, list, c, block)
-        } else {
-            false
-        }
-    } else {
-        true
+    if !kinds::is_view(column.kind) {
+        return true;
     }
+    let list = slot_counts::list_length(s, books, s.place, c);
+    between(4096, column.source.current.0, 1048576)
+        && block_in_range(s, books, list, c, column.block)
 }
 
+// 14, every column.
 fn columns_in_range(s: BatchCoalescer, books: &[u8]) -> bool
     requires { (Few s) × (s.place ≤ s.queue) × (length books.now ≡ books_length s) }
     ensures { result ≡ every (column_in_range (world s [] [] books.now)) s.columns }
@@ -161,15 +151,8 @@ fn list_in_range(s: BatchCoalescer, slots: &[u8], books: &[u8], slot: u32, c: u3
     if count == 0 {
         return true;
     }
-    if layout::is_views(s, c) {
-        if count <= s.lists {
-            words_below(slots, layout::list_place(s, slot, c), count, s.numbers)
-        } else {
-            false
-        }
-    } else {
-        false
-    }
+    let has_place = layout::is_views(s, c) && count <= s.lists;
+    has_place && words_below(slots, layout::list_place(s, slot, c), count, s.numbers)
 }
 
 // 14, a slot: its rows within R, and its lists.
@@ -188,6 +171,7 @@ fn slot_in_range(s: BatchCoalescer, slots: &[u8], books: &[u8], slot: u32) -> bo
     true
 }
 
+// 14, every slot.
 fn slots_in_range(s: BatchCoalescer, slots: &[u8], books: &[u8]) -> bool
     requires { Sized s (length slots.now) (length books.now) }
     ensures { result ≡ every (slot_in_range (world s slots.now [] books.now)) (s.queue + 1) }
@@ -205,27 +189,24 @@ fn state_in_range(s: BatchCoalescer, slots: &[u8], books: &[u8]) -> bool
     requires { Sized s (length slots.now) (length books.now) }
     ensures { result ≡ state_in_range (world s slots.now [] books.now) }
 {
-    if s.place <= s.queue {
-        (s.buffered.0 < s.target.0)
-            & ((s.queued <= s.queue)
-                & (buffer_ranges::books_in_range(books, s.numbers, ByteSum(s.pool.0 as u64))
-                    & (columns_in_range(s, books) & slots_in_range(s, slots, books))))
-    } else {
-        false
-    }
+    s.place <= s.queue
+        && ((s.buffered.0 < s.target.0)
+            & (s.queued <= s.queue)
+            & buffer_ranges::books_in_range(books, s.numbers, ByteSum(s.pool.0 as u64))
+            & columns_in_range(s, books)
+            & slots_in_range(s, slots, books))
 }
 
 // The tests in their order: 1, then 14; 0 where neither refuses.
 pub fn tested(s: BatchCoalescer, slots: &[u8], pool: &[u8], books: &[u8]) -> u32
     ensures { result ≡ tested (world s slots.now pool.now books.now) }
 {
-    if fits_set_up(s, slots.len(), pool.len(), books.len()) {
-        if state_in_range(s, slots, books) {
-            0
-        } else {
-            14
-        }
+    if !fits_set_up(s, slots.len(), pool.len(), books.len()) {
+        return 1;
+    }
+    if state_in_range(s, slots, books) {
+        0
     } else {
-        1
+        14
     }
 }
