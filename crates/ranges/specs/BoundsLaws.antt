@@ -2,7 +2,7 @@
 use Rattle.std.specs.Prelude.{ℕ, ◌+◌, ◌≤◌, ◌<◌, ◌^◌, ◌≡◌, Bool, ◌&&◌, get_or, leb, eqb}
 use Rattle.std.proofs.Math.Path.{refl, ap}
 use Rattle.std.proofs.Common.{sym, ◌∙◌, arith}
-use Rattle.std.proofs.Math.Bool.{true, false, and-eq-true_iff}
+use Rattle.std.proofs.Math.Bool.{true, false, and_assoc, and-true, and-eq-true_iff}
 use borrow.Author.Tests.{leb-true, le-leb, lt-leb, eqb-true}
 use Rattle.search.specs.Every.{every, All, all_none, all_more, all_fails, all_done}
 use Rattle.kinds.specs.declared.Width.{Width}
@@ -25,10 +25,6 @@ pub between-says : (lo x hi : ℕ) → between lo x hi ≡ true → (lo ≤ x) �
 between-says lo x hi e =
     let a = (and-eq-true_iff (leb lo x) (leb x hi)).0 e in
     (leb-true lo x a.0, leb-true x hi a.1)
-
-and_true : (t : Bool) → t ≡ (t && true)
-and_true true = refl
-and_true false = refl
 
 -- kinds_known: its turns and its ways out
 unfoldable pub known : BatchCoalescer → ℕ → Bool
@@ -58,15 +54,7 @@ module _ (s : BatchCoalescer) where
   pub bounds_are : {a b c k l n : Bool} → s.columns ≤ 16 → s.pool.0 < 2 ^ 32 → a ≡ between 1 s.target.0 65536 → b ≡ between s.target.0 s.rows.0 65536 → c ≡ between 1 s.queue 1024 → k ≡ kinds_known s → l ≡ between 1 s.lists 1024 → n ≡ between 1 s.numbers 65536 → (((((a && b) && c) && k) && l) && n) ≡ in_bounds s
   unfolding in_bounds kinds_known
   bounds_are {a} {b} {c} {k} {l} {n} h m p q r x y z =
-      rw (← p, ← q, ← r, ← x, ← y, ← z, le-leb s.columns 16 h, le-leb s.pool.0 4294967295 (omega arith)) (in_turn a b c k l n)
-    where
-      in_turn : (a b c k l n : Bool) → (((((a && b) && c) && k) && l) && n) ≡ (a && (b && (c && (k && (l && (n && true))))))
-      in_turn false b c k l n = refl
-      in_turn true false c k l n = refl
-      in_turn true true false k l n = refl
-      in_turn true true true false l n = refl
-      in_turn true true true true false n = refl
-      in_turn true true true true true n = and_true n
+      rw (← p, ← q, ← r, ← x, ← y, ← z, le-leb s.columns 16 h, le-leb s.pool.0 4294967295 (omega arith)) (simp (and_assoc, and-true))
 
   pub bounds_columns : 16 < s.columns → false ≡ in_bounds s
   unfolding in_bounds
@@ -126,11 +114,7 @@ module _ (s : BatchCoalescer) (slots pool books : ℕ) {b : Bool} (p : b ≡ in_
 
   pub fits_are : {m n : ℕ} → b ≡ true → m ≡ slots_length s → n ≡ books_length s → ((eqb slots m && eqb pool s.pool.0) && eqb books n) ≡ fits_lengths s slots pool books
   unfolding fits_lengths
-  fits_are x q r = rw (← p, x, q, r) (in_turn (eqb slots (slots_length s)) (eqb pool s.pool.0) _)
-    where
-      in_turn : (x y z : Bool) → ((x && y) && z) ≡ (x && (y && z))
-      in_turn false y z = refl
-      in_turn true y z = refl
+  fits_are x q r = rw (← p, x, q, r) (simp and_assoc)
 
 -- what the test of 1 says
 pub record FitsSetUp (s : BatchCoalescer) (slots pool books : ℕ) : Type 0 where

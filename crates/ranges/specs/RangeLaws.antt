@@ -6,7 +6,7 @@ use Rattle.std.proofs.Math.Bool.{true, false, not}
 use mathlib.Core.List.{List, []}
 use native.Mathlib.Omega.{arith}
 use borrow.Author.Tests.{lt-ltb, le-ltb, le-leb, lt-leb, eq-eqb, ne_eqb, leb-true}
-use Rattle.std.proofs.Math.Bool.{and-eq-true_iff}
+use Rattle.std.proofs.Math.Bool.{and_assoc, and-eq-true_iff}
 use Rattle.search.specs.Every.{every, All, all_none, all_more, all_fails, all_done}
 use Rattle.search.specs.Cases.{both_fails, both_rest}
 use Rattle.words.specs.Word.{word32}
@@ -98,12 +98,7 @@ module _ (s : BatchCoalescer) (books : List ℕ) (list c : ℕ) {b : OpenBlock} 
   module _ {k : BufferNumber} (e : b ≡ OpenBlock.Number k) {u v : Bool} (p : u ≡ (ltb k.0 s.numbers && not (is_free_at books k.0))) (q : v ≡ (u && ltb list s.lists)) where
     block_whole : (v && every (not_open s k.0) c) ≡ block_in_range s books list c b
     unfolding not_open
-    block_whole = rw (e, q, p) (in_turn (ltb k.0 s.numbers) (not (is_free_at books k.0)) (ltb list s.lists) _)
-      where
-        in_turn : (w x y z : Bool) → (((w && x) && y) && z) ≡ (w && (x && (y && z)))
-        in_turn false x y z = refl
-        in_turn true false y z = refl
-        in_turn true true y z = refl
+    block_whole = rw (e, q, p) (simp and_assoc)
 
     pub block_fails : v ≡ false → v ≡ block_in_range s books list c b
     block_fails x = x ∙ both_fails _ x ∙ block_whole
@@ -235,14 +230,7 @@ module _ (s : BatchCoalescer) (slots books : List ℕ) where
 module _ (s : BatchCoalescer) (slots books : List ℕ) where
   pub state_is : {a b r : Bool} → s.place ≤ s.queue → a ≡ in_range books s.numbers s.pool.0 → b ≡ every (column_in_range (world s [] [] books)) s.columns → r ≡ every (slot_in_range (world s slots [] books)) (s.queue + 1) → ((((ltb s.buffered.0 s.target.0 && leb s.queued s.queue) && a) && b) && r) ≡ state_in_range (world s slots [] books)
   unfolding state_in_range column_in_range list_length
-  state_is h p q t = rw (le-leb s.place s.queue h, p, q, t) (in_turn (ltb s.buffered.0 s.target.0) (leb s.queued s.queue) _ _ _)
-    where
-      in_turn : (v w x y z : Bool) → ((((v && w) && x) && y) && z) ≡ (v && (w && (x && (y && z))))
-      in_turn false w x y z = refl
-      in_turn true false x y z = refl
-      in_turn true true false y z = refl
-      in_turn true true true false z = refl
-      in_turn true true true true z = refl
+  state_is h p q t = rw (le-leb s.place s.queue h, p, q, t) (simp and_assoc)
 
   pub state_place : s.queue < s.place → false ≡ state_in_range (world s slots [] books)
   unfolding state_in_range
