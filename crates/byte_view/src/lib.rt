@@ -23,11 +23,9 @@ pub fn ideal_of(body: &[u8], at: usize, rows: RowCount) -> ByteSum
     ensures { (result.0 ≡ long_to (views_at body.now at) rows.0) × (result.0 < 2 ^ 49) }
 {
     let mut sum: u64 = 0;
-    let mut i: u32 = 0;
-    while i < rows.0 {
+    for i in 0..rows.0 {
         let v = views::view_at(body, at + (i as usize) * 16);
         sum += views::long_length(v).0;
-        i += 1;
     }
     ByteSum(sum)
 }
@@ -38,12 +36,10 @@ pub fn actual_of(books: &[u8], body: &[u8], list: usize, count: u32) -> ByteSum
     ensures { result.0 ≡ capacities books.now body.now list count }
 {
     let mut sum: u64 = 0;
-    let mut i: u32 = 0;
-    while i < count {
+    for i in 0..count {
         let k = words::get32(body, list + 4 * (i as usize));
         let e = books::entry_at(books, BufferNumber(k));
         sum += e.capacity.0 as u64;
-        i += 1;
     }
     ByteSum(sum)
 }
@@ -75,8 +71,7 @@ pub fn walk(body: &[u8], at: usize, n: RowCount, rest: ByteSum) -> Walked
     ensures { (result ≡ walk_of (views_at body.now at) n.0 rest.0) × (result.rows.0 ≤ n.0) × (result.bytes.0 ≤ rest.0) }
 {
     let mut left = rest.0;
-    let mut i: u32 = 0;
-    while i < n.0 {
+    for i in 0..n.0 {
         let v = views::view_at(body, at + (i as usize) * 16);
         if left < (v.length as u64) {
             return Walked {
@@ -85,7 +80,6 @@ pub fn walk(body: &[u8], at: usize, n: RowCount, rest: ByteSum) -> Walked
             };
         }
         left -= views::long_length(v).0;
-        i += 1;
     }
     Walked {
         rows: n,

@@ -2,12 +2,11 @@
 use Rattle.std.specs.Prelude.{ℕ, ◌+◌, ◌*◌, ◌/◌, ◌≤◌, ◌<◌, ◌^◌, ◌≡◌, ◌&&◌, not, List, length, leb, eqb}
 use Rattle.std.proofs.Math.Path.{refl}
 use Rattle.std.proofs.Common.{sym, ◌∙◌, mul-le-mul, Fits}
-use Rattle.std.proofs.Math.Bool.{Bool, true, false, cond, and-eq-true_iff}
+use Rattle.std.proofs.Math.Bool.{Bool, true, false, cond, and_assoc, and-eq-true_iff}
 use native.Mathlib.Omega.{arith}
 use Rattle.std.proofs.Math.Decide.{ℕ_discrete}
 use borrow.Author.Tests.{lt-ltb, le-ltb, leb-true, eqb-true, eq-eqb, ne_eqb, ltb-true}
 use Rattle.std.specs.Int.{w64}
-use Rattle.search.specs.Cases.{both}
 use Rattle.search.specs.Every.{every-says, All, all_none, all_more, all_fails, all_done}
 use Rattle.words.specs.Word.{word32}
 use Rattle.kinds.specs.Kind.{is_view}
@@ -51,9 +50,9 @@ module _ (r : ColumnRecord) where
         go false = refl
 
     -- keeps_rules: its tests together
-    pub ruled_are : {x y : Bool} → x ≡ bit_ruled r → y ≡ list_ruled r kind → (eqb r.kind kind && (eqb r.spare 0 && (eqb r.spare2 0 && (x && y)))) ≡ is_ruled r kind
+    pub ruled_are : {x y : Bool} → x ≡ bit_ruled r → y ≡ list_ruled r kind → ((((eqb r.kind kind && eqb r.spare 0) && eqb r.spare2 0) && x) && y) ≡ is_ruled r kind
     unfolding is_ruled bit_ruled list_ruled
-    ruled_are p q = rw (p, q)
+    ruled_are p q = rw (p, q) (simp and_assoc)
 
 -- ---- 5
 
@@ -93,9 +92,9 @@ module _ (r : ColumnRecord) (rows : ℕ) where
 
   module _ (width size : ℕ) {x : Bool} where
     -- lies_in_body: its tests together
-    pub lies_are : {y l : Bool} → x ≡ in_body r.values (rows * width) size → y ≡ bits_within r rows size → l ≡ in_body r.list (4 * r.count) size → (x && (y && l)) ≡ lies_within r rows width size
+    pub lies_are : {y l : Bool} → x ≡ in_body r.values (rows * width) size → y ≡ bits_within r rows size → l ≡ in_body r.list (4 * r.count) size → ((x && y) && l) ≡ lies_within r rows width size
     unfolding lies_within bits_within
-    lies_are p q s = rw (p, q, s)
+    lies_are p q s = rw (p, q, s) (simp and_assoc)
 
     -- what 5 tells of the values and of the list
     pub values_in : x ≡ lies_within r rows width size → x ≡ true → in_body r.values (rows * width) size ≡ true

@@ -18,11 +18,7 @@ use views::{Buffer, View};
 fn bit_ruled(r: ColumnRecord) -> bool
     ensures { result ≡ bit_ruled r }
 {
-    if r.validity == records::NO_VALIDITY {
-        r.first == 0
-    } else {
-        true
-    }
+    r.validity != records::NO_VALIDITY || r.first == 0
 }
 
 // 4: an empty list begins nowhere, and only views have another.
@@ -40,7 +36,7 @@ fn list_ruled(r: ColumnRecord, kind: u32) -> bool
 pub fn keeps_rules(r: ColumnRecord, kind: u32) -> bool
     ensures { result ≡ is_ruled r kind }
 {
-    (r.kind == kind) & ((r.spare == 0) & ((r.spare2 == 0) & (bit_ruled(r) & list_ruled(r, kind))))
+    (r.kind == kind) & (r.spare == 0) & (r.spare2 == 0) & bit_ruled(r) & list_ruled(r, kind)
 }
 
 // Whether n bytes from a start on lie in so many; no bytes need no place.
@@ -48,11 +44,7 @@ fn in_body(start: u32, n: ByteSum, size: ByteSum) -> bool
     requires { n.0 < 2 ^ 40 }
     ensures { result ≡ in_body start n.0 size.0 }
 {
-    if n.0 == 0 {
-        true
-    } else {
-        (start as u64) + n.0 <= size.0
-    }
+    n.0 == 0 || (start as u64) + n.0 <= size.0
 }
 
 // The bytes of a bitmap that begins with bit `first`, through the byte of the last row's bit.
@@ -72,11 +64,7 @@ fn bits_in_body(r: ColumnRecord, rows: RowCount, size: ByteSum) -> bool
     requires { rows.0 ≤ 65536 }
     ensures { result ≡ bits_within r rows.0 size.0 }
 {
-    if r.validity == records::NO_VALIDITY {
-        true
-    } else {
-        in_body(r.validity, bitmap_need(r.first, rows), size)
-    }
+    r.validity == records::NO_VALIDITY || in_body(r.validity, bitmap_need(r.first, rows), size)
 }
 
 // 5: whether values, bitmap and list lie in a body of so many bytes.
@@ -85,7 +73,8 @@ pub fn lies_in_body(r: ColumnRecord, rows: RowCount, width: u32, size: ByteSum) 
     ensures { result ≡ lies_within r rows.0 width size.0 }
 {
     in_body(r.values, ByteSum((rows.0 as u64) * (width as u64)), size)
-        & (bits_in_body(r, rows, size) & in_body(r.list, ByteSum(4 * (r.count as u64)), size))
+        & bits_in_body(r, rows, size)
+        & in_body(r.list, ByteSum(4 * (r.count as u64)), size)
 }
 
 // Whether the caller holds a buffer.
@@ -93,11 +82,7 @@ fn is_held(books: &[u8], k: BufferNumber) -> bool
     requires { 4 + 20 * used_of books.now ≤ length books.now }
     ensures { result ≡ is_held books.now k.0 }
 {
-    if k.0 < words::get32(books, 0) {
-        books::entry_at(books, k).hold != 0
-    } else {
-        false
-    }
+    k.0 < words::get32(books, 0) && books::entry_at(books, k).hold != 0
 }
 
 // 6: whether the caller holds each of the `count` buffers that are listed from `list` of the body on.
@@ -105,12 +90,9 @@ pub fn all_held(books: &[u8], body: &[u8], list: u32, count: u32) -> bool
     requires { (4 + 20 * used_of books.now ≤ length books.now) × (list + 4 * count ≤ length body.now) }
     ensures { result ≡ held_all books.now body.now list count }
 {
-    let mut i: u32 = 0;
-    while i < count {
+    for i in 0..count {
         let k = BufferNumber(words::get32(body, (list as usize) + 4 * (i as usize)));
-        if is_held(books, k) {
-            i += 1;
-        } else {
+        if !is_held(books, k) {
             return false;
         }
     }
@@ -151,12 +133,9 @@ pub fn bad_row(books: &[u8], pool: &[u8], body: &[u8], r: ColumnRecord, rows: Ro
     requires { (Heeded books.now pool.now body.now r.list r.count) × (rows.0 ≤ 65536) × (in_body r.values (rows.0 * 16) (length body.now) ≡ true) }
     ensures { result ≡ bad_from books.now pool.now body.now r rows.0 }
 {
-    let mut i: u32 = 0;
-    while i < rows.0 {
+    for i in 0..rows.0 {
         let v = views::view_at(body, (r.values as usize) + (i as usize) * 16);
-        if is_valid(v, books, pool, body, r.list, r.count) {
-            i += 1;
-        } else {
+        if !is_valid(v, books, pool, body, r.list, r.count) {
             return i;
         }
     }

@@ -20,7 +20,7 @@ pub fn column_of(s: BatchCoalescer, c: u32) -> Column
     s.column[at]
 }
 
-// The bytes of one row of a kind, and of column c.
+// The bytes of one row of a kind.
 pub fn width_in(kind: u32) -> usize
     ensures { (result ≡ bytes_in (width_at kind)) × (result ≤ 32) }
 {
@@ -31,6 +31,7 @@ pub fn width_in(kind: u32) -> usize
     }
 }
 
+// The bytes of one row of column c.
 pub fn width_of(s: BatchCoalescer, c: u32) -> usize
     requires { c < 16 }
     ensures { (result ≡ width_of s c) × (result ≤ 32) }
@@ -46,7 +47,7 @@ pub fn is_views(s: BatchCoalescer, c: u32) -> bool
     kinds::is_view(column_of(s, c).kind)
 }
 
-// The bytes of a column's values, of its bitmap, and of its list.
+// The bytes of the values of column c.
 pub fn values_bytes(s: BatchCoalescer, c: u32) -> usize
     requires { (Few s) × (c < 16) }
     ensures { (result ≡ values_bytes s c) × (result ≤ 2097152) }
@@ -54,6 +55,7 @@ pub fn values_bytes(s: BatchCoalescer, c: u32) -> usize
     (s.rows.0 as usize) * width_of(s, c)
 }
 
+// The bytes of a bitmap.
 pub fn bitmap_bytes(s: BatchCoalescer) -> usize
     requires { Few s }
     ensures { (result ≡ bitmap_bytes s) × (result ≤ 8192) }
@@ -61,6 +63,7 @@ pub fn bitmap_bytes(s: BatchCoalescer) -> usize
     ((s.rows.0 as usize) + 7) / 8
 }
 
+// The bytes of the list of column c.
 pub fn list_bytes(s: BatchCoalescer, c: u32) -> usize
     requires { (Few s) × (c < 16) }
     ensures { (result ≡ list_bytes s c) × (result ≤ 4096) }
@@ -86,22 +89,19 @@ pub fn column_size(kind: u32, rows: RowCount, lists: u32) -> usize
     }
 }
 
-// The bytes of the first c columns of a slot, and of a slot.
+// The bytes of the first c columns of a slot.
 pub fn columns_bytes(s: BatchCoalescer, c: u32) -> usize
     requires { (Few s) × (c ≤ 16) }
     ensures { (result ≡ columns_bytes s c) × (result ≤ 2109440 * c) }
 {
     let mut sum: usize = 0;
-    let mut i: u32 = 0;
-    while i < c {
-        let at = i as usize;
-        let column = s.column[at];
-        sum += column_size(column.kind, s.rows, s.lists);
-        i += 1;
+    for i in 0..c {
+        sum += column_size(s.column[i as usize].kind, s.rows, s.lists);
     }
     sum
 }
 
+// The bytes of a slot.
 pub fn slot_bytes(s: BatchCoalescer) -> usize
     requires { Few s }
     ensures { (result ≡ slot_bytes s) × (result ≤ 33751040) }
@@ -109,7 +109,7 @@ pub fn slot_bytes(s: BatchCoalescer) -> usize
     columns_bytes(s, s.columns)
 }
 
-// Where column c of a slot has its values, its bitmap, its list; and where row i of it begins.
+// Where column c of a slot has its values.
 pub fn values_place(s: BatchCoalescer, slot: u32, c: u32) -> usize
     requires { (Few s) × (slot ≤ 1024) × (c < 16) }
     ensures { (result ≡ values_place s slot c) × (result ≤ 35000000000) }
@@ -118,6 +118,7 @@ pub fn values_place(s: BatchCoalescer, slot: u32, c: u32) -> usize
     (slot as usize) * size + columns_bytes(s, c)
 }
 
+// Where column c of a slot has its bitmap.
 pub fn bitmap_place(s: BatchCoalescer, slot: u32, c: u32) -> usize
     requires { (Few s) × (slot ≤ 1024) × (c < 16) }
     ensures { (result ≡ bitmap_place s slot c) × (result ≤ 36000000000) }
@@ -125,6 +126,7 @@ pub fn bitmap_place(s: BatchCoalescer, slot: u32, c: u32) -> usize
     values_place(s, slot, c) + values_bytes(s, c)
 }
 
+// Where column c of a slot has its list.
 pub fn list_place(s: BatchCoalescer, slot: u32, c: u32) -> usize
     requires { (Few s) × (slot ≤ 1024) × (c < 16) }
     ensures { (result ≡ list_place s slot c) × (result ≤ 37000000000) }
@@ -132,6 +134,7 @@ pub fn list_place(s: BatchCoalescer, slot: u32, c: u32) -> usize
     bitmap_place(s, slot, c) + bitmap_bytes(s)
 }
 
+// Where row i of column c of a slot begins.
 pub fn cell_place(s: BatchCoalescer, slot: u32, c: u32, i: u32) -> usize
     requires { (Few s) × (slot ≤ 1024) × (c < 16) × (i ≤ 65536) }
     ensures { (result ≡ cell_place s slot c i) × (result ≤ 36000000000) }
@@ -140,7 +143,7 @@ pub fn cell_place(s: BatchCoalescer, slot: u32, c: u32, i: u32) -> usize
     values_place(s, slot, c) + (i as usize) * width
 }
 
-// The lengths of lent memory.
+// The length of the slots.
 pub fn slots_length(s: BatchCoalescer) -> usize
     requires { Few s }
     ensures { result ≡ slots_length s }
@@ -148,6 +151,7 @@ pub fn slots_length(s: BatchCoalescer) -> usize
     ((s.queue as usize) + 1) * slot_bytes(s)
 }
 
+// The length of the books.
 pub fn books_length(s: BatchCoalescer) -> usize
     requires { Few s }
     ensures { result ≡ books_length s }
@@ -155,7 +159,7 @@ pub fn books_length(s: BatchCoalescer) -> usize
     4 + 20 * (s.numbers as usize) + 4 * (1 + (s.columns as usize)) * ((s.queue as usize) + 1)
 }
 
-// The slot behind one, and the one k before one: slots in turn.
+// The slot behind one: slots in turn.
 pub fn next_slot(s: BatchCoalescer, slot: u32) -> u32
     requires { (Few s) × (slot ≤ s.queue) }
     ensures { (result ≡ next_slot s slot) × (result ≤ s.queue) }
@@ -163,6 +167,7 @@ pub fn next_slot(s: BatchCoalescer, slot: u32) -> u32
     if s.queue <= slot { 0 } else { slot + 1 }
 }
 
+// The slot k before one.
 fn slot_before(s: BatchCoalescer, slot: u32, k: u32) -> u32
     requires { (Few s) × (slot ≤ s.queue) × (k ≤ s.queue) }
     ensures { (result ≡ slot_before s slot k) × (result ≤ s.queue) }

@@ -2,8 +2,8 @@
 use Rattle.std.specs.Prelude.{ℕ, ◌+◌, ◌≤◌, ◌<◌, ◌^◌, ◌≡◌, Bool, ◌&&◌, get_or, leb, eqb}
 use Rattle.std.proofs.Math.Path.{refl, ap}
 use Rattle.std.proofs.Common.{sym, ◌∙◌, arith}
-use Rattle.std.proofs.Math.Bool.{true, false, and-eq-true_iff}
-use borrow.Author.Tests.{leb-true, le-leb, lt-leb, eqb-true, eq-eqb, ne_eqb}
+use Rattle.std.proofs.Math.Bool.{true, false, and_assoc, and-true, and-eq-true_iff}
+use borrow.Author.Tests.{leb-true, le-leb, lt-leb, eqb-true}
 use Rattle.search.specs.Every.{every, All, all_none, all_more, all_fails, all_done}
 use Rattle.kinds.specs.Kind.{width_at}
 use Rattle.state.specs.declared.BatchCoalescer.{BatchCoalescer}
@@ -25,10 +25,6 @@ pub between-says : (lo x hi : ℕ) → between lo x hi ≡ true → (lo ≤ x) �
 between-says lo x hi e =
     let a = (and-eq-true_iff (leb lo x) (leb x hi)).0 e in
     (leb-true lo x a.0, leb-true x hi a.1)
-
-and_true : (t : Bool) → t ≡ (t && true)
-and_true true = refl
-and_true false = refl
 
 -- kinds_known: its turns and its ways out
 unfoldable pub known : BatchCoalescer → ℕ → Bool
@@ -55,11 +51,10 @@ module _ (s : BatchCoalescer) where
 
 -- in_bounds_lem: its tests together, and columns over 16. Every word of the machine is a pool's length
 module _ (s : BatchCoalescer) where
-  pub bounds_are : {a b c k l n : Bool} → s.columns ≤ 16 → s.pool.0 < 2 ^ 32 → a ≡ between 1 s.target.0 65536 → b ≡ between s.target.0 s.rows.0 65536 → c ≡ between 1 s.queue 1024 → k ≡ kinds_known s → l ≡ between 1 s.lists 1024 → n ≡ between 1 s.numbers 65536 → (a && (b && (c && (k && (l && n))))) ≡ in_bounds s
+  pub bounds_are : {a b c k l n : Bool} → s.columns ≤ 16 → s.pool.0 < 2 ^ 32 → a ≡ between 1 s.target.0 65536 → b ≡ between s.target.0 s.rows.0 65536 → c ≡ between 1 s.queue 1024 → k ≡ kinds_known s → l ≡ between 1 s.lists 1024 → n ≡ between 1 s.numbers 65536 → (((((a && b) && c) && k) && l) && n) ≡ in_bounds s
   unfolding in_bounds kinds_known
   bounds_are {a} {b} {c} {k} {l} {n} h m p q r x y z =
-      rw (← p, ← q, ← r, ← x, ← y, ← z, le-leb s.columns 16 h, le-leb s.pool.0 4294967295 (omega arith))
-      (ap (λ (g : Bool). a && (b && (c && (k && (l && g))))) (and_true n))
+      rw (← p, ← q, ← r, ← x, ← y, ← z, le-leb s.columns 16 h, le-leb s.pool.0 4294967295 (omega arith)) (simp (and_assoc, and-true))
 
   pub bounds_columns : 16 < s.columns → false ≡ in_bounds s
   unfolding in_bounds
@@ -117,9 +112,9 @@ module _ (s : BatchCoalescer) (slots pool books : ℕ) {b : Bool} (p : b ≡ in_
   unfolding fits_lengths
   fits_bounds x = rw (← p, x)
 
-  pub fits_are : {m n : ℕ} → b ≡ true → m ≡ slots_length s → n ≡ books_length s → (eqb slots m && (eqb pool s.pool.0 && eqb books n)) ≡ fits_lengths s slots pool books
+  pub fits_are : {m n : ℕ} → b ≡ true → m ≡ slots_length s → n ≡ books_length s → ((eqb slots m && eqb pool s.pool.0) && eqb books n) ≡ fits_lengths s slots pool books
   unfolding fits_lengths
-  fits_are x q r = rw (← p, x, q, r)
+  fits_are x q r = rw (← p, x, q, r) (simp and_assoc)
 
 -- what the test of 1 says
 pub record FitsSetUp (s : BatchCoalescer) (slots pool books : ℕ) : Type 0 where

@@ -1,15 +1,15 @@
 -- The ways out of the test of 14, the turns of its loops, and the places that it reads.
-use Rattle.std.specs.Prelude.{ℕ, zero, suc, ◌+◌, ◌*◌, ◌≤◌, ◌<◌, ◌≡◌, Bool, ◌&&◌, cond, length, get_or, ltb, leb}
+use Rattle.std.specs.Prelude.{ℕ, ◌+◌, ◌*◌, ◌≤◌, ◌<◌, ◌≡◌, Bool, ◌&&◌, cond, length, get_or, ltb, leb}
 use Rattle.std.proofs.Math.Path.{refl}
-use Rattle.std.proofs.Common.{sym, ◌∙◌, ap, mul-le-mul_left}
+use Rattle.std.proofs.Common.{sym, ◌∙◌, ap}
 use Rattle.std.proofs.Math.Bool.{true, false, not}
 use mathlib.Core.List.{List, []}
 use native.Mathlib.Omega.{arith}
-use borrow.Author.Tests.{lt-ltb, le-ltb, le-leb, lt-leb, eq-eqb, ne_eqb}
+use borrow.Author.Tests.{lt-ltb, le-ltb, le-leb, lt-leb, eq-eqb, ne_eqb, leb-true}
+use Rattle.std.proofs.Math.Bool.{and_assoc, and-eq-true_iff}
 use Rattle.search.specs.Every.{every, All, all_none, all_more, all_fails, all_done}
+use Rattle.search.specs.Cases.{both_fails, both_rest}
 use Rattle.words.specs.Word.{word32}
-use Rattle.tallies.specs.declared.Tally.{Tally}
-use Rattle.tallies.specs.Tally.{tally_place, tally_of}
 use Rattle.books.specs.declared.Entry.{Entry}
 use Rattle.books.specs.Entry.{used_of, entry_of, is_free, is_free_at}
 use Rattle.kinds.specs.Kind.{is_view}
@@ -18,7 +18,7 @@ use Rattle.counts.specs.declared.BufferNumber.{BufferNumber}
 use Rattle.state.specs.declared.BatchCoalescer.{BatchCoalescer}
 use Rattle.state.specs.declared.Column.{Column}
 use Rattle.state.specs.World.{world, no_column, column_of}
-use Rattle.state.specs.Layout.{is_views, list_place, slots_length, books_length, tally, rows_in, list_length}
+use Rattle.state.specs.Layout.{is_views, list_place, slots_length, books_length, rows_in, list_length}
 use Rattle.layout.specs.PlaceLaws.{list_room}
 use Rattle.rules.specs.Ranges.{between, is_block, has_open, block_in_range, column_in_range, list_in_range, slot_in_range, state_in_range, tested}
 use Rattle.ranges.specs.Tested.{fits_lengths, opens_in, not_open, below}
@@ -42,14 +42,9 @@ module _ (books : List ℕ) {k u : ℕ} (p : u ≡ word32 books 0) where
   unfolding is_free_at used_of
   use_not h = rw (← p, le-ltb k u h)
 
-  module _ (h : k < u) {e : Entry} {r : Bool} (q : e ≡ entry_of books k) (t : r ≡ is_free e) where
-    pub use_free : r ≡ true → false ≡ not (is_free_at books k)
-    unfolding is_free_at used_of
-    use_free x = rw (← p, lt-ltb k u h, ← q, ← t, x)
-
-    pub use_live : r ≡ false → true ≡ not (is_free_at books k)
-    unfolding is_free_at used_of
-    use_live x = rw (← p, lt-ltb k u h, ← q, ← t, x)
+  pub use_is : {e : Entry} {r : Bool} → k < u → e ≡ entry_of books k → r ≡ is_free e → not r ≡ not (is_free_at books k)
+  unfolding is_free_at used_of
+  use_is h q t = rw (← p, lt-ltb k u h, ← q, ← t)
 
 -- has_open
 module _ (column : Column) (k : ℕ) {b : Option BufferNumber} (p : b ≡ column.block) where
@@ -99,13 +94,17 @@ module _ (s : BatchCoalescer) (books : List ℕ) (list c : ℕ) {b : Option Buff
   pub block_closed : b ≡ None → true ≡ block_in_range s books list c b
   block_closed e = rw e
 
-  module _ {k : BufferNumber} (e : b ≡ Some k) where
-    pub block_past : s.numbers ≤ k.0 → false ≡ block_in_range s books list c b
-    block_past h = rw (e, le-ltb k.0 s.numbers h)
-
-    pub block_is : {a r : Bool} → k.0 < s.numbers → a ≡ not (is_free_at books k.0) → r ≡ every (not_open s k.0) c → (a && (ltb list s.lists && r)) ≡ block_in_range s books list c b
+  -- u is the first two tests, v the first three
+  module _ {k : BufferNumber} (e : b ≡ OpenBlock.Number k) {u v : Bool} (p : u ≡ (ltb k.0 s.numbers && not (is_free_at books k.0))) (q : v ≡ (u && ltb list s.lists)) where
+    block_whole : (v && every (not_open s k.0) c) ≡ block_in_range s books list c b
     unfolding not_open
-    block_is h p t = rw (e, lt-ltb k.0 s.numbers h, p, t)
+    block_whole = rw (e, q, p) (simp and_assoc)
+
+    pub block_fails : v ≡ false → v ≡ block_in_range s books list c b
+    block_fails x = x ∙ both_fails _ x ∙ block_whole
+
+    pub block_is : {r : Bool} → v ≡ true → r ≡ every (not_open s k.0) c → r ≡ block_in_range s books list c b
+    block_is x t = t ∙ both_rest _ x ∙ block_whole
 
 -- column_in_range and columns_in_range
 module _ (s : BatchCoalescer) (books : List ℕ) (c : ℕ) {k : Column} {v : Bool} (q : k ≡ column_of s c) (p : v ≡ is_view k.kind) where
@@ -162,21 +161,30 @@ unfolding list_in_range list_length every
 list-empty s slots books slot c p e = rw (← p, e, le-leb 0 (cond (is_views s c) s.lists 0) (omega arith))
 
 module _ (s : BatchCoalescer) (slots books : List ℕ) (slot c : ℕ) {v : Bool} {n : ℕ} (p : n ≡ list_length (world s [] [] books) slot c) (q : v ≡ is_views s c) where
-  -- some are, in a column that is not of views
-  pub list-none : v ≡ false → (n ≡ 0 → ⊥) → false ≡ list_in_range (world s slots [] books) slot c
-  unfolding list_in_range list_length
-  list-none x h = rw (← q, x, ← p, lt-leb n 0 (omega arith))
+  -- u is the first two tests
+  module _ {u : Bool} (h : u ≡ (v && leb n s.lists)) where
+    -- the tests are the bound, where some are listed
+    list_bound : (n ≡ 0 → ⊥) → u ≡ leb n (cond v s.lists 0)
+    list_bound z = go v refl
+      where
+        go : (y : Bool) → v ≡ y → u ≡ leb n (cond v s.lists 0)
+        go true e = rw e (rw e at h)
+        go false e = rw e ((rw e at h) ∙ sym (lt-leb n 0 (omega arith)))
 
-  pub list-long : v ≡ true → s.lists < n → false ≡ list_in_range (world s slots [] books) slot c
-  unfolding list_in_range list_length
-  list-long x h = rw (← q, x, ← p, lt-leb n s.lists h)
+    list_whole : (leb n (cond v s.lists 0) && below slots (list_place s slot c) n s.numbers) ≡ list_in_range (world s slots [] books) slot c
+    unfolding list_in_range list_length below
+    list_whole = rw (← q, ← p)
 
-  pub list-last : {at : ℕ} {b : Bool} → v ≡ true → n ≤ s.lists → at ≡ list_place s slot c → b ≡ below slots at n s.numbers → b ≡ list_in_range (world s slots [] books) slot c
-  unfolding list_in_range list_length below
-  list-last x h i j = rw (← q, x, ← p, le-leb n s.lists h, ← i) j
+    pub list_fails : (n ≡ 0 → ⊥) → u ≡ false → u ≡ list_in_range (world s slots [] books) slot c
+    list_fails z x = x ∙ both_fails _ (sym (list_bound z) ∙ x) ∙ list_whole
 
-pub listed_room : (s : BatchCoalescer) (slot c : ℕ) {v : Bool} {n at L : ℕ} → at ≡ list_place s slot c → v ≡ is_views s c → v ≡ true → slot ≤ s.queue → c < s.columns → n ≤ s.lists → L ≡ slots_length s → at + 4 * n ≤ L
-listed_room s slot c {v} {n} e p x h k l m = list_room s slot c n e (sym p ∙ x) h k l m
+    pub list-last : {at : ℕ} {b : Bool} → (n ≡ 0 → ⊥) → u ≡ true → at ≡ list_place s slot c → b ≡ below slots at n s.numbers → b ≡ list_in_range (world s slots [] books) slot c
+    list-last z x i j = j ∙ ap (λ a. below slots a n s.numbers) i ∙ both_rest _ (sym (list_bound z) ∙ x) ∙ list_whole
+
+pub listed_room : (s : BatchCoalescer) (slot c n : ℕ) {u v : Bool} {at L : ℕ} → u ≡ (v && leb n s.lists) → u ≡ true → at ≡ list_place s slot c → v ≡ is_views s c → slot ≤ s.queue → c < s.columns → L ≡ slots_length s → at + 4 * n ≤ L
+listed_room s slot c n {u} {v} x y e p h k m =
+    let b = (and-eq-true_iff v (leb n s.lists)).0 (sym x ∙ y) in
+    list_room s slot c n e (sym p ∙ b.0) h k (leb-true n s.lists b.1) m
 
 -- slot_in_range
 module _ (s : BatchCoalescer) (slots books : List ℕ) (slot : ℕ) where
@@ -211,14 +219,18 @@ module _ (s : BatchCoalescer) (slots books : List ℕ) where
   pub slots_fail : (i : ℕ) {r : Bool} → i ≤ s.queue → r ≡ slot_in_range (world s slots [] books) i → r ≡ false → false ≡ every (slot_in_range (world s slots [] books)) (s.queue + 1)
   slots_fail i l p x = all_fails (slot_in_range (world s slots [] books)) (s.queue + 1) i (omega arith) (sym p ∙ x)
 
+  -- the last one passed
+  pub slots_last : (i : ℕ) {r : Bool} → All (slot_in_range (world s slots [] books)) i → r ≡ slot_in_range (world s slots [] books) i → r ≡ true → s.queue ≤ i → true ≡ every (slot_in_range (world s slots [] books)) (s.queue + 1)
+  slots_last i a p x l = all_done (s.queue + 1) (slots_more i a p x) (omega arith)
+
   pub slots_done : (i : ℕ) → All (slot_in_range (world s slots [] books)) i → s.queue < i → true ≡ every (slot_in_range (world s slots [] books)) (s.queue + 1)
   slots_done i a l = all_done (s.queue + 1) a (omega arith)
 
 -- state_in_range: its tests together, and a place past the last slot
 module _ (s : BatchCoalescer) (slots books : List ℕ) where
-  pub state_is : {a b r : Bool} → s.place ≤ s.queue → a ≡ in_range books s.numbers s.pool.0 → b ≡ every (column_in_range (world s [] [] books)) s.columns → r ≡ every (slot_in_range (world s slots [] books)) (s.queue + 1) → (ltb s.buffered.0 s.target.0 && (leb s.queued s.queue && (a && (b && r)))) ≡ state_in_range (world s slots [] books)
+  pub state_is : {a b r : Bool} → s.place ≤ s.queue → a ≡ in_range books s.numbers s.pool.0 → b ≡ every (column_in_range (world s [] [] books)) s.columns → r ≡ every (slot_in_range (world s slots [] books)) (s.queue + 1) → ((((ltb s.buffered.0 s.target.0 && leb s.queued s.queue) && a) && b) && r) ≡ state_in_range (world s slots [] books)
   unfolding state_in_range column_in_range list_length
-  state_is h p q t = rw (le-leb s.place s.queue h, p, q, t)
+  state_is h p q t = rw (le-leb s.place s.queue h, p, q, t) (simp and_assoc)
 
   pub state_place : s.queue < s.place → false ≡ state_in_range (world s slots [] books)
   unfolding state_in_range

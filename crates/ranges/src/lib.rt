@@ -18,15 +18,11 @@ fn kinds_known(s: BatchCoalescer) -> bool
     requires { s.columns ≤ 16 }
     ensures { result ≡ kinds_known s }
 {
-    let mut c: u32 = 0;
-    while c < s.columns {
-        let at = c as usize;
-        let column = s.column[at];
-        let width = kinds::width_of(column.kind);
-        let Some(_) = width else {
+    for c in 0..s.columns {
+        let width = kinds::width_of(s.column[c as usize].kind);
+        let Width::Bytes(_) = width else {
             return false;
         };
-        c += 1;
     }
     true
 }
@@ -35,34 +31,30 @@ fn kinds_known(s: BatchCoalescer) -> bool
 fn between(low: u32, x: u32, high: u32) -> bool
     ensures { result ≡ Rattle.rules.specs.Ranges.between low x high }
 {
-    if low <= x { x <= high } else { false }
+    low <= x && x <= high
 }
 
 // Whether what set-up fixed is within 01's bounds.
 pub fn in_bounds(s: BatchCoalescer) -> bool
     ensures { result ≡ in_bounds s }
 {
-    if s.columns <= 16 {
-        between(1, s.target.0, 65536)
-            & (between(s.target.0, s.rows.0, 65536)
-                & (between(1, s.queue, 1024)
-                    & (kinds_known(s)
-                        & (between(1, s.lists, 1024) & between(1, s.numbers, 65536)))))
-    } else {
-        false
-    }
+    s.columns <= 16
+        && (between(1, s.target.0, 65536)
+            & between(s.target.0, s.rows.0, 65536)
+            & between(1, s.queue, 1024)
+            & kinds_known(s)
+            & between(1, s.lists, 1024)
+            & between(1, s.numbers, 65536))
 }
 
 // 1: whether the set-up is within its bounds and the lent memories have its lengths.
 pub fn fits_set_up(s: BatchCoalescer, slots: usize, pool: usize, books: usize) -> bool
     ensures { result ≡ fits_lengths s slots pool books }
 {
-    if in_bounds(s) {
-        (slots == layout::slots_length(s))
-            & ((pool == (s.pool.0 as usize)) & (books == layout::books_length(s)))
-    } else {
-        false
-    }
+    in_bounds(s)
+        && ((slots == layout::slots_length(s))
+            & (pool == s.pool.0 as usize)
+            & (books == layout::books_length(s)))
 }
 
 // Whether number k is a buffer in use.
@@ -70,12 +62,7 @@ fn in_use(books: &[u8], k: BufferNumber) -> bool
     requires { 24 + 20 * k.0 ≤ length books.now }
     ensures { result ≡ not (is_free_at books.now k.0) }
 {
-    if k.0 < words::get32(books, 0) {
-        let e = books::entry_at(books, k);
-        if books::is_free(e) { false } else { true }
-    } else {
-        false
-    }
+    k.0 < words::get32(books, 0) && !books::is_free(books::entry_at(books, k))
 }
 
 // Whether a column of views has block k open.
@@ -84,14 +71,8 @@ fn has_open(column: Column, k: BufferNumber) -> bool
 {
     let block = column.block;
     match block {
-        None => false,
-        Some(j) => {
-            if j.0 == k.0 {
-                kinds::is_view(column.kind)
-            } else {
-                false
-            }
-        }
+        OpenBlock::Closed => false,
+        OpenBlock::Number(j) => { j.0 == k.0 && kinds::is_view(column.kind) }
     }
 }
 
@@ -100,14 +81,10 @@ fn none_before(s: BatchCoalescer, c: u32, k: BufferNumber) -> bool
     requires { c ≤ 16 }
     ensures { result ≡ every (not_open s k.0) c }
 {
-    let mut d: u32 = 0;
-    while d < c {
-        let at = d as usize;
-        let column = s.column[at];
-        if has_open(column, k) {
+    for d in 0..c {
+        if has_open(s.column[d as usize], k) {
             return false;
         }
-        d += 1;
     }
     true
 }
@@ -118,13 +95,9 @@ fn block_in_range(s: BatchCoalescer, books: &[u8], list: u32, c: u32, block: Opt
     ensures { result ≡ block_in_range s books.now list c block }
 {
     match block {
-        None => true,
-        Some(k) => {
-            if k.0 < s.numbers {
-                in_use(books, k) & ((list < s.lists) & none_before(s, c, k))
-            } else {
-                false
-            }
+        OpenBlock::Closed => true,
+        OpenBlock::Number(k) => {
+            k.0 < s.numbers && in_use(books, k) && list < s.lists && none_before(s, c, k)
         }
     }
 }
@@ -134,30 +107,21 @@ fn column_in_range(s: BatchCoalescer, books: &[u8], c: u32, column: Column) -> b
     requires { (Few s) × (s.place ≤ s.queue) × (c < s.columns) × (length books.now ≡ books_length s) × (column ≡ column_of s c) }
     ensures { result ≡ column_in_range (world s [] [] books.now) c }
 {
-    if kinds::is_view(column.kind) {
-        if between(4096, column.source.current.0, 1048576) {
-            let list = slot_counts::list_length(s, books, s.place, c);
-            let block = column.block;
-            block_in_range(s, books, list, c, block)
-        } else {
-            false
-        }
-    } else {
-        true
+    if !kinds::is_view(column.kind) {
+        return true;
     }
+    let list = slot_counts::list_length(s, books, s.place, c);
+    between(4096, column.source.current.0, 1048576)
+        && block_in_range(s, books, list, c, column.block)
 }
 
+// 14, every column.
 fn columns_in_range(s: BatchCoalescer, books: &[u8]) -> bool
     requires { (Few s) × (s.place ≤ s.queue) × (length books.now ≡ books_length s) }
     ensures { result ≡ every (column_in_range (world s [] [] books.now)) s.columns }
 {
-    let mut c: u32 = 0;
-    while c < s.columns {
-        let at = c as usize;
-        let column = s.column[at];
-        if column_in_range(s, books, c, column) {
-            c += 1;
-        } else {
+    for c in 0..s.columns {
+        if !column_in_range(s, books, c, s.column[c as usize]) {
             return false;
         }
     }
@@ -169,11 +133,8 @@ fn words_below(s: &[u8], at: usize, count: u32, n: u32) -> bool
     requires { at + 4 * count ≤ length s.now }
     ensures { result ≡ below s.now at count n }
 {
-    let mut i: u32 = 0;
-    while i < count {
-        if words::get32(s, at + 4 * (i as usize)) < n {
-            i += 1;
-        } else {
+    for i in 0..count {
+        if n <= words::get32(s, at + 4 * (i as usize)) {
             return false;
         }
     }
@@ -189,15 +150,8 @@ fn list_in_range(s: BatchCoalescer, slots: &[u8], books: &[u8], slot: u32, c: u3
     if count == 0 {
         return true;
     }
-    if layout::is_views(s, c) {
-        if count <= s.lists {
-            words_below(slots, layout::list_place(s, slot, c), count, s.numbers)
-        } else {
-            false
-        }
-    } else {
-        false
-    }
+    let has_place = layout::is_views(s, c) && count <= s.lists;
+    has_place && words_below(slots, layout::list_place(s, slot, c), count, s.numbers)
 }
 
 // 14, a slot: its rows within R, and its lists.
@@ -208,26 +162,21 @@ fn slot_in_range(s: BatchCoalescer, slots: &[u8], books: &[u8], slot: u32) -> bo
     if s.rows.0 < slot_counts::rows_in(s, books, slot).0 {
         return false;
     }
-    let mut c: u32 = 0;
-    while c < s.columns {
-        if list_in_range(s, slots, books, slot, c) {
-            c += 1;
-        } else {
+    for c in 0..s.columns {
+        if !list_in_range(s, slots, books, slot, c) {
             return false;
         }
     }
     true
 }
 
+// 14, every slot.
 fn slots_in_range(s: BatchCoalescer, slots: &[u8], books: &[u8]) -> bool
     requires { Sized s (length slots.now) (length books.now) }
     ensures { result ≡ every (slot_in_range (world s slots.now [] books.now)) (s.queue + 1) }
 {
-    let mut slot: u32 = 0;
-    while slot <= s.queue {
-        if slot_in_range(s, slots, books, slot) {
-            slot += 1;
-        } else {
+    for slot in 0..=s.queue {
+        if !slot_in_range(s, slots, books, slot) {
             return false;
         }
     }
@@ -239,27 +188,24 @@ fn state_in_range(s: BatchCoalescer, slots: &[u8], books: &[u8]) -> bool
     requires { Sized s (length slots.now) (length books.now) }
     ensures { result ≡ state_in_range (world s slots.now [] books.now) }
 {
-    if s.place <= s.queue {
-        (s.buffered.0 < s.target.0)
-            & ((s.queued <= s.queue)
-                & (buffer_ranges::books_in_range(books, s.numbers, ByteSum(s.pool.0 as u64))
-                    & (columns_in_range(s, books) & slots_in_range(s, slots, books))))
-    } else {
-        false
-    }
+    s.place <= s.queue
+        && ((s.buffered.0 < s.target.0)
+            & (s.queued <= s.queue)
+            & buffer_ranges::books_in_range(books, s.numbers, ByteSum(s.pool.0 as u64))
+            & columns_in_range(s, books)
+            & slots_in_range(s, slots, books))
 }
 
 // The tests in their order: 1, then 14; 0 where neither refuses.
 pub fn tested(s: BatchCoalescer, slots: &[u8], pool: &[u8], books: &[u8]) -> u32
     ensures { result ≡ tested (world s slots.now pool.now books.now) }
 {
-    if fits_set_up(s, slots.len(), pool.len(), books.len()) {
-        if state_in_range(s, slots, books) {
-            0
-        } else {
-            14
-        }
+    if !fits_set_up(s, slots.len(), pool.len(), books.len()) {
+        return 1;
+    }
+    if state_in_range(s, slots, books) {
+        0
     } else {
-        1
+        14
     }
 }

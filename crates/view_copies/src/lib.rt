@@ -24,11 +24,9 @@ pub fn append_views_and_update_buffer_index(
     requires { (Spanned body.now from (length slots.old) to n.0) × (Raisable body.now from n.0 k) }
     ensures { slots.new ≡ views_put (λ i. raised_by k (views_at body.now from i)) slots.old to n.0 }
 {
-    let mut i: u32 = 0;
-    while i < n.0 {
+    for i in 0..n.0 {
         let v = views::view_at(body, from + (i as usize) * 16);
         views::put_view(slots, to + (i as usize) * 16, views::raise(v, k));
-        i += 1;
     }
 }
 
@@ -93,10 +91,8 @@ pub fn append_views_and_copy_strings_inner(
         × (pool.new ≡ bytes_carried (views_at body.now j.from) (source_in books.now body.now j.list) pool.old (j.start + filled.0) n.0) }
 {
     let mut so_far = filled;
-    let mut i: u32 = 0;
-    while i < n.0 {
+    for i in 0..n.0 {
         so_far = append_view(slots, pool, books, body, j, i, so_far);
-        i += 1;
     }
     so_far
 }

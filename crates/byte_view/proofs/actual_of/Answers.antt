@@ -1,5 +1,4 @@
 -- `byte_view::actual_of` meets its contract.
-use Prim.Native.Nat.{◌-◌}
 use borrow.Author.Rules.{rules}
 use Rattle.byte_view.specs.FoldLaws.{actual-none, actual-more, actual-all, entered_room}
 use Rattle.byte_view.proofs.actual_of.Goals as goal

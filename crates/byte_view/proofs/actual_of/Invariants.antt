@@ -1,11 +1,8 @@
 -- `byte_view::actual_of` meets its contract: what its loops keep.
-use Prim.Native.Nat.{◌≤◌, ◌<◌, ◌*◌, ◌-◌, ◌^◌}
+use Prim.Native.Nat.{◌≤◌, ◌*◌}
 use mathlib.Core.Path.{◌≡◌}
 use Rattle.byte_view.specs.Copying.{capacities}
 use Rattle.byte_view.proofs.actual_of.Given as goal
 
 abbrev pub invariant-loop-i : goal.invariant-loop-i
-invariant-loop-i l = (l.i ≤ l.count) × (l.count < 2 ^ 32) × (l.sum ≤ l.i * 4294967295) × (l.sum ≡ capacities l.books l.body l.list l.i)
-
-abbrev pub decreases-loop-i : goal.decreases-loop-i
-decreases-loop-i l = l.count - l.i
+invariant-loop-i l = (l.sum ≤ l.i * 4294967295) × (l.sum ≡ capacities l.books l.body l.list l.i)

@@ -1,5 +1,4 @@
 -- `byte_view::ideal_of` meets its contract.
-use Prim.Native.Nat.{◌-◌}
 use borrow.Author.Rules.{rules}
 use Rattle.byte_view.specs.FoldLaws.{bytes-known, ideal-none, ideal-more, ideal-all, ideal-fits, ideal_bound}
 use Rattle.byte_view.proofs.ideal_of.Goals as goal

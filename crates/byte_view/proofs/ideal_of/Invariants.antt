@@ -1,12 +1,9 @@
 -- `byte_view::ideal_of` meets its contract: what its loops keep.
-use Prim.Native.Nat.{◌≤◌, ◌*◌, ◌-◌}
+use Prim.Native.Nat.{◌≤◌, ◌*◌}
 use mathlib.Core.Path.{◌≡◌}
 use Rattle.words.specs.WordLaws.{Bytes}
 use Rattle.rules.specs.Copies.{views_at, long_to}
 use Rattle.byte_view.proofs.ideal_of.Given as goal
 
 abbrev pub invariant-loop-i : goal.invariant-loop-i
-invariant-loop-i l = (l.i ≤ l.rows.0) × (l.rows.0 ≤ 65536) × Bytes l.body × (l.sum ≤ l.i * 4294967295) × (l.sum ≡ long_to (views_at l.body l.at) l.i)
-
-abbrev pub decreases-loop-i : goal.decreases-loop-i
-decreases-loop-i l = l.rows.0 - l.i
+invariant-loop-i l = Bytes l.body × (l.sum ≤ l.i * 4294967295) × (l.sum ≡ long_to (views_at l.body l.at) l.i)

@@ -1,5 +1,4 @@
 -- `byte_view::walk` meets its contract.
-use Prim.Native.Nat.{◌-◌}
 use borrow.Author.Rules.{rules}
 use Rattle.byte_view.specs.WalkLaws.{walking_none, walking_fits, walking_more, walked_at, walked_all}
 use Rattle.byte_view.proofs.walk.Goals as goal

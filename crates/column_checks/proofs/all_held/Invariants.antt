@@ -1,11 +1,7 @@
 -- `column_checks::all_held` meets its contract: what its loops keep.
-use Prim.Native.Nat.{◌≤◌, ◌<◌, ◌-◌, ◌^◌}
 use Rattle.search.specs.Every.{All}
 use Rattle.column_checks.specs.RuleLaws.{held_at}
 use Rattle.column_checks.proofs.all_held.Given as goal
 
 abbrev pub invariant-loop-i : goal.invariant-loop-i
-invariant-loop-i l = (l.i ≤ l.count) × (l.list < 2 ^ 32) × (l.count < 2 ^ 32) × All (held_at l.books l.body l.list) l.i
-
-abbrev pub decreases-loop-i : goal.decreases-loop-i
-decreases-loop-i l = l.count - l.i
+invariant-loop-i l = All (held_at l.books l.body l.list) l.i

@@ -1,5 +1,4 @@
 -- `layout::columns_bytes` meets its contract.
-use Prim.Native.Nat.{◌-◌}
 use borrow.Author.Rules.{rules}
 use Rattle.layout.specs.ExitLaws.{columns_none, column_kind, columns_all}
 use Rattle.layout.proofs.columns_bytes.Goals as goal

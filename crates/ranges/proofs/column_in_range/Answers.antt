@@ -9,5 +9,5 @@ returns-then-between c = search (column-last, rules)
 pub returns-else-between : goal.returns-else-between
 returns-else-between c = search (column-size, rules)
 
-pub returns-else-is_view : goal.returns-else-is_view
-returns-else-is_view c = search (column_other, rules)
+pub returns-then-not-is_view : goal.returns-then-not-is_view
+returns-then-not-is_view c = search (column_other, rules)

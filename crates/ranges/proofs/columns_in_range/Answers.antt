@@ -1,5 +1,4 @@
 -- `ranges::columns_in_range` meets its contract.
-use Prim.Native.Nat.{◌-◌}
 use borrow.Author.Rules.{rules}
 use Rattle.layout.specs.ExitLaws.{column_is}
 use Rattle.ranges.specs.RangeLaws.{columns_none, columns_more, columns_fail, columns_done}
@@ -14,8 +13,8 @@ column_in_range-requires c = search (column_is, rules)
 pub loop-c-preserved : goal.loop-c-preserved
 loop-c-preserved c = search (columns_more, rules)
 
-pub returns-else-column_in_range : goal.returns-else-column_in_range
-returns-else-column_in_range c = search (columns_fail, rules)
+pub returns-then-not-column_in_range : goal.returns-then-not-column_in_range
+returns-then-not-column_in_range c = search (columns_fail, rules)
 
 pub returns : goal.returns
 returns c = search (columns_done, rules)

@@ -1,5 +1,4 @@
 -- `ranges::kinds_known` meets its contract.
-use Prim.Native.Nat.{◌-◌}
 use borrow.Author.Rules.{rules}
 use Rattle.ranges.specs.BoundsLaws.{known-none, known_more, known_fails, known-done}
 use Rattle.ranges.proofs.kinds_known.Goals as goal

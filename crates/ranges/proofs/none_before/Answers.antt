@@ -1,5 +1,4 @@
 -- `ranges::none_before` meets its contract.
-use Prim.Native.Nat.{◌-◌}
 use borrow.Author.Rules.{rules}
 use Rattle.ranges.specs.RangeLaws.{before-none, before_more, before_fails, before-done}
 use Rattle.ranges.proofs.none_before.Goals as goal

@@ -1,5 +1,4 @@
 -- `ranges::slot_in_range` meets its contract.
-use Prim.Native.Nat.{◌-◌}
 use borrow.Author.Rules.{rules}
 use Rattle.ranges.specs.RangeLaws.{lists_none, lists_more, slot_long, slot_fails, slot_done}
 use Rattle.ranges.proofs.slot_in_range.Goals as goal
@@ -13,8 +12,8 @@ loop-c-init c = search (lists_none, rules)
 pub loop-c-preserved : goal.loop-c-preserved
 loop-c-preserved c = search (lists_more, rules)
 
-pub returns-else-list_in_range : goal.returns-else-list_in_range
-returns-else-list_in_range c = search (slot_fails, rules)
+pub returns-then-not-list_in_range : goal.returns-then-not-list_in_range
+returns-then-not-list_in_range c = search (slot_fails, rules)
 
 pub returns : goal.returns
 returns c = search (slot_done, rules)

@@ -1,5 +1,4 @@
 -- `ranges::slot_in_range` meets its contract: what its loops keep.
-use Prim.Native.Nat.{◌≤◌, ◌-◌}
 use mathlib.Core.List.{[]}
 use Rattle.search.specs.Every.{All}
 use Rattle.rules.specs.Ranges.{list_in_range}
@@ -7,7 +6,4 @@ use Rattle.state.specs.World.{world}
 use Rattle.ranges.proofs.slot_in_range.Given as goal
 
 abbrev pub invariant-loop-c : goal.invariant-loop-c
-invariant-loop-c l = (l.c ≤ l.s.columns) × All (list_in_range (world l.s l.slots [] l.books) l.slot) l.c
-
-abbrev pub decreases-loop-c : goal.decreases-loop-c
-decreases-loop-c l = l.s.columns - l.c
+invariant-loop-c l = All (list_in_range (world l.s l.slots [] l.books) l.slot) l.c

@@ -1,5 +1,4 @@
 -- `ranges::slots_in_range` meets its contract: what its loops keep.
-use Prim.Native.Nat.{◌≤◌, ◌-◌, ◌+◌}
 use mathlib.Core.List.{[]}
 use Rattle.search.specs.Every.{All}
 use Rattle.rules.specs.Ranges.{slot_in_range}
@@ -7,7 +6,4 @@ use Rattle.state.specs.World.{world}
 use Rattle.ranges.proofs.slots_in_range.Given as goal
 
 abbrev pub invariant-loop-slot : goal.invariant-loop-slot
-invariant-loop-slot l = (l.slot ≤ l.s.queue + 1) × All (slot_in_range (world l.s l.slots [] l.books)) l.slot
-
-abbrev pub decreases-loop-slot : goal.decreases-loop-slot
-decreases-loop-slot l = l.s.queue + 1 - l.slot
+invariant-loop-slot l = All (slot_in_range (world l.s l.slots [] l.books)) l.slot

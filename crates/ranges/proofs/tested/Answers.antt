@@ -13,5 +13,5 @@ returns-then-state_in_range c = search (tested_0, rules)
 pub returns-else-state_in_range : goal.returns-else-state_in_range
 returns-else-state_in_range c = search (tested_14, rules)
 
-pub returns-else-fits_set_up : goal.returns-else-fits_set_up
-returns-else-fits_set_up c = search (tested_1, rules)
+pub returns-then-not-fits_set_up : goal.returns-then-not-fits_set_up
+returns-then-not-fits_set_up c = search (tested_1, rules)

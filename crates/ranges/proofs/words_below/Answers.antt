@@ -1,5 +1,4 @@
 -- `ranges::words_below` meets its contract.
-use Prim.Native.Nat.{◌-◌}
 use borrow.Author.Rules.{rules}
 use Rattle.ranges.specs.RangeLaws.{lower-none, lower-more, lower_fails, lower-done}
 use Rattle.ranges.proofs.words_below.Goals as goal
@@ -10,8 +9,8 @@ loop-i-init c = search (lower-none, rules)
 pub loop-i-preserved : goal.loop-i-preserved
 loop-i-preserved c = search (lower-more, rules)
 
-pub returns-else-get32-n : goal.returns-else-get32-n
-returns-else-get32-n c = search (lower_fails, rules)
+pub returns-then-n-get32 : goal.returns-then-n-get32
+returns-then-n-get32 c = search (lower_fails, rules)
 
 pub returns : goal.returns
 returns c = search (lower-done, rules)

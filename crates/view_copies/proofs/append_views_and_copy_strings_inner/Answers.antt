@@ -1,5 +1,4 @@
 -- `view_copies::append_views_and_copy_strings_inner` meets its contract.
-use Prim.Native.Nat.{◌-◌}
 use borrow.Author.Rules.{rules}
 use Rattle.byte_view.specs.CopyLaws.{copyable_at, copied_none, copied_more, far_all, pool-all}
 use Rattle.byte_view.specs.FoldLaws.{put_all}

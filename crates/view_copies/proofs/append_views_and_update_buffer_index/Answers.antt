@@ -1,5 +1,4 @@
 -- `view_copies::append_views_and_update_buffer_index` meets its contract.
-use Prim.Native.Nat.{◌-◌}
 use borrow.Author.Rules.{rules}
 use Rattle.byte_view.specs.FoldLaws.{raising_none, raising_more, put_all, raises_at}
 use Rattle.view_copies.proofs.append_views_and_update_buffer_index.Goals as goal
