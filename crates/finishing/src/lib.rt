@@ -32,15 +32,12 @@ fn close_all(s: BatchCoalescer, slots: &mut [u8], books: &mut [u8]) -> BatchCoal
     ensures { ClosesAll s slots.old books.old s.columns result slots.new books.new }
 {
     let mut t = s;
-    let mut c: u32 = 0;
-    while c < s.columns {
-        let at = c as usize;
-        let column = s.column[at];
-        let here = c;
-        c += 1;
-        if kinds::is_view(column.kind) {
-            t = close_one(t, slots, books, here);
+    for c in 0..s.columns {
+        let column = s.column[c as usize];
+        if !kinds::is_view(column.kind) {
+            continue;
         }
+        t = close_one(t, slots, books, c);
     }
     t
 }
@@ -65,19 +62,17 @@ pub fn finish(s: BatchCoalescer, slots: &mut [u8], books: &mut [u8]) -> Step
             state: s,
             number: 0,
         }
+    } else if s.queued < s.queue {
+        let t = close_all(s, slots, books);
+        let u = queue_slot(t, books, s.buffered);
+        Step {
+            state: u,
+            number: 0,
+        }
     } else {
-        if s.queued < s.queue {
-            let t = close_all(s, slots, books);
-            let u = queue_slot(t, books, s.buffered);
-            Step {
-                state: u,
-                number: 0,
-            }
-        } else {
-            Step {
-                state: s,
-                number: 9,
-            }
+        Step {
+            state: s,
+            number: 9,
         }
     }
 }

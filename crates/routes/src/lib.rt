@@ -46,11 +46,8 @@ pub fn set_sources(
     ensures { Sourced result (world s [] [] books.now) (batch rows.0 records.now body.now) }
 {
     let mut all = no_sources();
-    let mut c: u32 = 0;
-    while c < s.columns {
-        let at = c as usize;
-        all.column[at] = columns::set_source(s, books, records, body, rows, c);
-        c += 1;
+    for c in 0..s.columns {
+        all.column[c as usize] = columns::set_source(s, books, records, body, rows, c);
     }
     all
 }
@@ -76,16 +73,12 @@ pub fn route_of(s: BatchCoalescer, rows: RowCount) -> Route
     ensures { result ≡ route_of s rows.0 }
 {
     let limit = s.limit;
-    if is_over(limit, rows) {
-        if s.buffered.0 == 0 {
-            Route::Whole
-        } else {
-            if is_over(limit, s.buffered) {
-                Route::FinishFirst
-            } else {
-                Route::Coalesce
-            }
-        }
+    if !is_over(limit, rows) {
+        Route::Coalesce
+    } else if s.buffered.0 == 0 {
+        Route::Whole
+    } else if is_over(limit, s.buffered) {
+        Route::FinishFirst
     } else {
         Route::Coalesce
     }

@@ -24,14 +24,12 @@ pub fn try_whole(s: BatchCoalescer, books: &[u8], records: &[u8]) -> u32
     if s.queue <= s.queued {
         return 9;
     }
-    let mut c: u32 = 0;
-    while c < s.columns {
+    for c in 0..s.columns {
         let n = slot_counts::list_length(s, books, s.place, c);
         let count = records::record_at(records, c).count;
         if (s.lists as u64) < (n as u64) + (count as u64) {
             return 10;
         }
-        c += 1;
     }
     0
 }
@@ -41,8 +39,7 @@ fn next_place(s: BatchCoalescer, c: u32, place: usize) -> usize
     requires { (Few s) × (s.place ≤ s.queue) × (c < s.columns) × (place ≡ values_place s s.place c) }
     ensures { result ≡ values_place s s.place (c + 1) }
 {
-    let at = c as usize;
-    let column = s.column[at];
+    let column = s.column[c as usize];
     place + layout::column_size(column.kind, s.rows, s.lists)
 }
 
@@ -105,11 +102,9 @@ fn copy_columns(
     ensures { LaysColumns s slots.old books.old (batch rows.0 records.now body.now) s.columns slots.new books.new }
 {
     let mut place = layout::values_place(s, s.place, 0);
-    let mut c: u32 = 0;
-    while c < s.columns {
+    for c in 0..s.columns {
         copy_whole(s, slots, books, records, body, rows, c, place);
         place = next_place(s, c, place);
-        c += 1;
     }
 }
 

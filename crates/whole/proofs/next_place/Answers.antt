@@ -3,8 +3,8 @@ use borrow.Author.Rules.{rules}
 use Rattle.whole.specs.PlaceLaws.{place-column, place-fits, place-more}
 use Rattle.whole.proofs.next_place.Goals as goal
 
-pub bounds-s-at : goal.bounds-s-at
-bounds-s-at c = search (place-column, rules)
+pub bounds-s-c : goal.bounds-s-c
+bounds-s-c c = search (place-column, rules)
 
 pub overflow_add-result : goal.overflow_add-result
 overflow_add-result c = search (place-fits, rules)
