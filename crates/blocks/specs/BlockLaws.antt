@@ -1,7 +1,7 @@
 -- The laws of block sizes: the loop a turn at a time, and the sizes that a history of asks keeps.
 use Rattle.std.specs.Prelude.{ℕ, zero, suc, ◌+◌, ◌*◌, ◌^◌, ◌≤◌, ◌<◌, max, ◌≡◌, refl, Bool, true, false, cond, List, [], ◌∷◌, ltb, leb}
 use Rattle.std.proofs.Common.{sym, ap, ◌∙◌, arith, pow-suc, pow-add, ltb-true, ltb-false, leb-false, le-ltb, lt-ltb, le-leb}
-use Rattle.std.proofs.Math.Option.{Option, none, some}
+use Rattle.std.specs.Prelude.{Option, None, Some}
 use Rattle.std.proofs.Math.Decide.{dec_lt}
 use Rattle.std.proofs.Math.Nat.{pow-le-pow_right}
 use Rattle.std.proofs.lemmas.Bool.{lt-leb}

@@ -32,7 +32,7 @@ fn copy_strings(
     p: Rows,
     k: BufferNumber,
 )
-    requires { (RoomInOpen (world s slots.old pool.old books.old) (batch rows.0 records.now body.now) r p) × ((column_of s p.column).block ≡ OpenBlock.Number k) }
+    requires { (RoomInOpen (world s slots.old pool.old books.old) (batch rows.0 records.now body.now) r p) × ((column_of s p.column).block ≡ Some k) }
     ensures { compacting (world s slots.old pool.old books.old) (batch rows.0 records.now body.now) p
         ≡ ok (world s slots.new pool.new books.new) }
 {

@@ -95,7 +95,7 @@ module _ (s : BatchCoalescer) (books : List ℕ) (list c : ℕ) {b : Option Buff
   block_closed e = rw e
 
   -- u is the first two tests, v the first three
-  module _ {k : BufferNumber} (e : b ≡ OpenBlock.Number k) {u v : Bool} (p : u ≡ (ltb k.0 s.numbers && not (is_free_at books k.0))) (q : v ≡ (u && ltb list s.lists)) where
+  module _ {k : BufferNumber} (e : b ≡ Some k) {u v : Bool} (p : u ≡ (ltb k.0 s.numbers && not (is_free_at books k.0))) (q : v ≡ (u && ltb list s.lists)) where
     block_whole : (v && every (not_open s k.0) c) ≡ block_in_range s books list c b
     unfolding not_open
     block_whole = rw (e, q, p) (simp and_assoc)

@@ -20,7 +20,7 @@ fn kinds_known(s: BatchCoalescer) -> bool
 {
     for c in 0..s.columns {
         let width = kinds::width_of(s.column[c as usize].kind);
-        let Width::Bytes(_) = width else {
+        let Some(_) = width else {
             return false;
         };
     }
@@ -71,8 +71,8 @@ fn has_open(column: Column, k: BufferNumber) -> bool
 {
     let block = column.block;
     match block {
-        OpenBlock::Closed => false,
-        OpenBlock::Number(j) => { j.0 == k.0 && kinds::is_view(column.kind) }
+        None => false,
+        Some(j) => { j.0 == k.0 && kinds::is_view(column.kind) }
     }
 }
 
@@ -95,8 +95,8 @@ fn block_in_range(s: BatchCoalescer, books: &[u8], list: u32, c: u32, block: Opt
     ensures { result ≡ block_in_range s books.now list c block }
 {
     match block {
-        OpenBlock::Closed => true,
-        OpenBlock::Number(k) => {
+        None => true,
+        Some(k) => {
             k.0 < s.numbers && in_use(books, k) && list < s.lists && none_before(s, c, k)
         }
     }

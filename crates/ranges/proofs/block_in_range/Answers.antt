@@ -18,7 +18,7 @@ returns-in-None c = search (block_closed, rules)
 -- two: what the first two tests say; three: the first three
 pub returns-then-list-s : goal.returns-then-list-s
 returns-then-list-s c =
-    let two : c.if-k-s.value ≡ (ltb c.in-Number.k.0 c.args.s.numbers && not (is_free_at c.args.books.now c.in-Number.k.0)) =
+    let two : c.if-k-s.value ≡ (ltb c.in-Some.k.0 c.args.s.numbers && not (is_free_at c.args.books.now c.in-Some.k.0)) =
     elim c.if-k-s.branch [
       | then-k-s w ↦ w.value-is ∙ w.in_use.ensures ∙ both_rest _ (lt-ltb _ _ w.if-k-s.true)
       | else-k-s w ↦ w.value-is ∙ le-ltb _ _ w.if-k-s.false ∙ both_fails _ (le-ltb _ _ w.if-k-s.false)
@@ -28,11 +28,11 @@ returns-then-list-s c =
       | then-in_use w ↦ w.value-is ∙ both_rest _ w.if-in_use.true
       | else-in_use w ↦ w.value-is ∙ w.if-in_use.false ∙ both_fails _ w.if-in_use.false
     ] in
-    block_is _ _ _ _ c.in-Number.is two three c.if-list-s.true c.none_before.ensures
+    block_is _ _ _ _ c.in-Some.is two three c.if-list-s.true c.none_before.ensures
 
 pub returns-else-list-s : goal.returns-else-list-s
 returns-else-list-s c =
-    let two : c.if-k-s.value ≡ (ltb c.in-Number.k.0 c.args.s.numbers && not (is_free_at c.args.books.now c.in-Number.k.0)) =
+    let two : c.if-k-s.value ≡ (ltb c.in-Some.k.0 c.args.s.numbers && not (is_free_at c.args.books.now c.in-Some.k.0)) =
     elim c.if-k-s.branch [
       | then-k-s w ↦ w.value-is ∙ w.in_use.ensures ∙ both_rest _ (lt-ltb _ _ w.if-k-s.true)
       | else-k-s w ↦ w.value-is ∙ le-ltb _ _ w.if-k-s.false ∙ both_fails _ (le-ltb _ _ w.if-k-s.false)
@@ -42,4 +42,4 @@ returns-else-list-s c =
       | then-in_use w ↦ w.value-is ∙ both_rest _ w.if-in_use.true
       | else-in_use w ↦ w.value-is ∙ w.if-in_use.false ∙ both_fails _ w.if-in_use.false
     ] in
-    block_fails _ _ _ _ c.in-Number.is two three c.if-list-s.false
+    block_fails _ _ _ _ c.in-Some.is two three c.if-list-s.false
