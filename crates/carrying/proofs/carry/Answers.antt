@@ -1,7 +1,6 @@
 -- `carrying::carry` meets its contract.
-use Prim.Native.Nat.{◌-◌}
 use borrow.Author.Rules.{rules}
-use Rattle.pool.specs.CarryLaws.{carried_none, carried-more, carried-all}
+use Rattle.pool.specs.CarryLaws.{carried_none, carried-more}
 use Rattle.carrying.proofs.carry.Goals as goal
 
 pub loop-i-init : goal.loop-i-init
@@ -9,6 +8,3 @@ loop-i-init c = search (carried_none, rules)
 
 pub loop-i-preserved : goal.loop-i-preserved
 loop-i-preserved c = search (carried-more, rules)
-
-pub returns : goal.returns
-returns c = search (carried-all, rules)

@@ -1,6 +1,6 @@
 -- `list_changes::list_all` meets its contract.
 use borrow.Author.Rules.{rules}
-use Rattle.listings.specs.ListingLaws.{over_none, over_more, over_all, listed_room}
+use Rattle.listings.specs.ListingLaws.{over_none, over_more, listed_room}
 use Rattle.list_changes.proofs.list_all.Goals as goal
 
 pub loop-i-init : goal.loop-i-init
@@ -11,6 +11,3 @@ list_one-requires c = search (listed_room, rules)
 
 pub loop-i-preserved : goal.loop-i-preserved
 loop-i-preserved c = search (over_more, rules)
-
-pub returns : goal.returns
-returns c = search (over_all, rules)

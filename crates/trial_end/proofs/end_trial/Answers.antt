@@ -1,5 +1,4 @@
 -- `trial_end::end_trial` meets its contract.
-use Prim.Native.Nat.{◌-◌}
 use borrow.Author.Rules.{rules}
 use Rattle.room.specs.TrialLaws.{wiped-none, wiped-more, untried_is, trial_room}
 use Rattle.trial_end.proofs.end_trial.Goals as goal

@@ -6,5 +6,5 @@ use Rattle.trial_end.proofs.wipe_one.Goals as goal
 pub returns-then-e-eq2 : goal.returns-then-e-eq2
 returns-then-e-eq2 c = search (wiped-marked, rules)
 
-pub returns : goal.returns
-returns c = search (wiped_not, rules)
+pub returns-else-e-eq2 : goal.returns-else-e-eq2
+returns-else-e-eq2 c = search (wiped_not, rules)
