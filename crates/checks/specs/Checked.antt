@@ -1,5 +1,6 @@
 -- Faults, as the functions hand them on.
-use Rattle.std.specs.Prelude.{ℕ, Bool, cond, List, [], ltb}
+use Rattle.std.specs.Prelude.{ℕ, Bool, List, [], Option, Some, None, Result, Ok, Err}
+use Rattle.std.proofs.Math.Option.{Option as First, none, some}
 use Rattle.state.specs.declared.BatchCoalescer.{BatchCoalescer}
 use Rattle.state.specs.World.{world}
 use Rattle.rules.specs.declared.Fault.{Fault}
@@ -10,9 +11,15 @@ use Rattle.rules.specs.Checks.{is_fault, column_fault}
 abbrev pub fault_at : ℕ → ℕ → ℕ → Fault
 fault_at number column row = record { number = number; column = column; row = row }
 
--- 7: the fault of the first bad row of so many, or none
-unfoldable pub row_fault_of : ℕ → ℕ → ℕ → Fault
-row_fault_of i rows c = cond (ltb i rows) (fault_at 7 c i) (fault_at 0 0 0)
+-- the first fault, as the code answers it: a refusal
+abbrev pub refused_by : First Fault → Result (Unit {0}) Fault
+refused_by none = Ok tt
+refused_by (some f) = Err f
+
+-- 7: the refusal by the first bad row
+abbrev pub row_refused : ℕ → Option ℕ → Result (Unit {0}) Fault
+row_refused c None = Ok tt
+row_refused c (Some i) = Err (fault_at 7 c i)
 
 -- column c is at fault
 unfoldable pub faulty_at : BatchCoalescer → List ℕ → List ℕ → List ℕ → List ℕ → ℕ → ℕ → Bool

@@ -1,11 +1,9 @@
 -- The exits of the checks of a column and of the batch.
-use Rattle.std.specs.Prelude.{ℕ, ◌*◌, ◌≤◌, ◌<◌, ◌≡◌, refl, Bool, true, false, List, [], length}
+use Rattle.std.specs.Prelude.{ℕ, ◌*◌, ◌≡◌, refl, Bool, true, false, List, [], length, Result, Ok, Err}
 use Rattle.std.proofs.Math.Path.{sym}
-use Rattle.std.proofs.Common.{◌∙◌, ap, arith}
-use Rattle.std.specs.Prelude.{Option, None, Some}
-use borrow.Author.Tests.{lt-ltb, le-ltb}
+use Rattle.std.proofs.Common.{◌∙◌, ap}
+use Rattle.std.proofs.Math.Option.{Option, none, some}
 use Rattle.search.specs.First.{first}
-use Rattle.search.specs.FirstLaws.{at-says}
 use Rattle.kinds.specs.Kind.{is_view, width_at}
 use Rattle.state.specs.declared.BatchCoalescer.{BatchCoalescer}
 use Rattle.state.specs.declared.Column.{Column}
@@ -15,23 +13,13 @@ use Rattle.state.proofs.LayoutLaws.{views_width}
 use Rattle.rules.specs.declared.ColumnRecord.{ColumnRecord}
 use Rattle.rules.specs.declared.Fault.{Fault}
 use Rattle.rules.specs.Batch.{Batch, batch, record_of, listed_bytes, value_place, row_view}
-use Rattle.rules.specs.Checks.{is_ruled, keeps_rules, in_body, lies_within, lies_in_body, held_all, all_held, valid_row, bad_row, fault, row_fault, fault_of, column_fault}
+use Rattle.rules.specs.Checks.{is_ruled, keeps_rules, in_body, lies_within, lies_in_body, held_all, all_held, valid_row, bad_row, row_fault, column_fault}
 use Rattle.rules.specs.ExitLaws.{column-four, column_five, column_six, column-none}
-use Rattle.column_checks.specs.Tested.{bad_at, bad_from}
-use Rattle.checks.specs.Checked.{fault_at, row_fault_of}
-use Rattle.rules.specs.Views.{or_all}
+use Rattle.column_checks.specs.Tested.{found, bad_at, bad_in}
+use Rattle.checks.specs.Checked.{fault_at, refused_by, row_refused}
 use Rattle.column_checks.specs.RuleLaws.{values_in}
 
 -- ---- rows
-
-module _ (rows c : ℕ) {i n : ℕ} {f : Fault} where
-  pub row-some : i ≡ n → i < rows → f ≡ fault_at 7 c i → f ≡ row_fault_of n rows c
-  unfolding row_fault_of
-  row-some e l q = rw (← e, lt-ltb i rows l) q
-
-  pub row-none : i ≡ n → rows ≤ i → f ≡ fault_at 0 0 0 → f ≡ row_fault_of n rows c
-  unfolding row_fault_of
-  row-none e l q = rw (← e, le-ltb i rows l) q
 
 module _ (s : BatchCoalescer) (pool books records body : List ℕ) (rows c : ℕ) where
   no_view_row : is_views s c ≡ false → (i : ℕ) → valid_row (world s [] pool books) (batch rows records body) c i ≡ true
@@ -43,15 +31,9 @@ module _ (s : BatchCoalescer) (pool books records body : List ℕ) (rows c : ℕ
   unfolding bad_row valid_row bad_at row_view value_place listed_bytes record_of
   bad_row_is e = simp (e, views_width s c e)
 
-row_fault_is : (c rows : ℕ) (p : ℕ → Bool) → fault_of (row_fault c (first p rows)) ≡ row_fault_of (or_all rows (first p rows)) rows c
-row_fault_is c rows p = go (first p rows) refl
-  where
-    some_is : (i : ℕ) → i < rows → fault_at 7 c i ≡ row_fault_of i rows c
-    some_is i l = row-some rows c refl l refl
-
-    go : (o : Option ℕ) → first p rows ≡ o → fault_of (row_fault c o) ≡ row_fault_of (or_all rows o) rows c
-    go None e = row-none rows c refl (omega arith) refl
-    go (Some i) e = some_is i (at-says p rows i e).below
+row_fault_is : (c : ℕ) (o : Option ℕ) → refused_by (row_fault c o) ≡ row_refused c (found o)
+row_fault_is c none = refl
+row_fault_is c (some i) = refl
 
 -- ---- a column
 
@@ -84,39 +66,38 @@ module _ (s : BatchCoalescer) (pool books records body : List ℕ) (rows c : ℕ
     views_are e = rw at at e
 
     -- 4, 5, 6: the first that fails
-    pub at-four : {x : Bool} {f : Fault} → x ≡ is_ruled r k.kind → x ≡ false → f ≡ fault_at 4 c 0 → f ≡ fault_of (column_fault W B c)
-    at-four e z q = q ∙ sym (ap fault_of (column-four W B c (sym (rules_is e) ∙ z)))
+    pub at-four : {x : Bool} {f : Result (Unit {0}) Fault} → x ≡ is_ruled r k.kind → x ≡ false → f ≡ Err (fault_at 4 c 0) → f ≡ refused_by (column_fault W B c)
+    at-four e z q = q ∙ sym (ap refused_by (column-four W B c (sym (rules_is e) ∙ z)))
 
     module _ {x : Bool} (ruled : x ≡ is_ruled r k.kind) (yes-ruled : x ≡ true) where
-      pub at_five : {y : Bool} {width : ℕ} {f : Fault} → width ≡ bytes_in (width_at k.kind) → y ≡ lies_within r rows width (length body) → y ≡ false → f ≡ fault_at 5 c 0 → f ≡ fault_of (column_fault W B c)
-      at_five p e z q = q ∙ sym (ap fault_of (column_five W B c (sym (rules_is ruled) ∙ yes-ruled) (sym (lies_is p e) ∙ z)))
+      pub at_five : {y : Bool} {width : ℕ} {f : Result (Unit {0}) Fault} → width ≡ bytes_in (width_at k.kind) → y ≡ lies_within r rows width (length body) → y ≡ false → f ≡ Err (fault_at 5 c 0) → f ≡ refused_by (column_fault W B c)
+      at_five p e z q = q ∙ sym (ap refused_by (column_five W B c (sym (rules_is ruled) ∙ yes-ruled) (sym (lies_is p e) ∙ z)))
 
       module _ {y : Bool} {width : ℕ} (wide_is : width ≡ bytes_in (width_at k.kind)) (lies : y ≡ lies_within r rows width (length body)) (yes-lies : y ≡ true) where
-        pub at_six : {z : Bool} {f : Fault} → z ≡ held_all books body r.list r.count → z ≡ false → f ≡ fault_at 6 c 0 → f ≡ fault_of (column_fault W B c)
+        pub at_six : {z : Bool} {f : Result (Unit {0}) Fault} → z ≡ held_all books body r.list r.count → z ≡ false → f ≡ Err (fault_at 6 c 0) → f ≡ refused_by (column_fault W B c)
         at_six e n q =
             q
             ∙ sym
-            (ap fault_of
+            (ap refused_by
             (column_six W B c (sym (rules_is ruled) ∙ yes-ruled) (sym (lies_is wide_is lies) ∙ yes-lies) (sym (held_is e) ∙ n)))
 
         module _ {z v : Bool} (held : z ≡ held_all books body r.list r.count) (yes-held : z ≡ true) (view : v ≡ is_view k.kind) where
           -- a column of no views has no bad row
-          pub no_views : {f : Fault} → v ≡ false → f ≡ fault_at 0 0 0 → f ≡ fault_of (column_fault W B c)
-          no_views n q =
-              q
-              ∙ sym
-              (ap fault_of
+          pub no_views : v ≡ false → Ok tt ≡ refused_by (column_fault W B c)
+          no_views n =
+              sym
+              (ap refused_by
               (column-none W B c (sym (rules_is ruled) ∙ yes-ruled) (sym (lies_is wide_is lies) ∙ yes-lies) (sym (held_is held) ∙ yes-held)
               (λ i l. no_view_row s pool books records body rows c (sym (views_are view) ∙ n) i)))
 
           -- a column of views has the fault of its first bad row
-          pub views_rows : {f : Fault} → v ≡ true → f ≡ row_fault_of (bad_from books pool body r rows) rows c → f ≡ fault_of (column_fault W B c)
-          unfolding column_fault bad_from
+          pub views_rows : {f : Result (Unit {0}) Fault} → v ≡ true → f ≡ row_refused c (bad_in books pool body r rows) → f ≡ refused_by (column_fault W B c)
+          unfolding column_fault bad_in
           views_rows y q =
               q
               ∙ sym
               (rw (sym (rules_is ruled) ∙ yes-ruled, sym (lies_is wide_is lies) ∙ yes-lies, sym (held_is held) ∙ yes-held, read, bad_row_is s pool books records body rows c (sym (views_are view) ∙ y))
-              (row_fault_is c rows (bad_at books pool body (record_of (batch 0 records []) c))))
+              (row_fault_is c (first (bad_at books pool body (record_of (batch 0 records []) c)) rows)))
 
 -- what the rows' function asks: 16 bytes of each row lie in the body
 pub rows_in_lem : (s : BatchCoalescer) (c : ℕ) (r : ColumnRecord) (rows size : ℕ) {k : Column} {width : ℕ} {y v : Bool} → k ≡ column_of s c → width ≡ bytes_in (width_at k.kind) → y ≡ lies_within r rows width size → y ≡ true → v ≡ is_view k.kind → v ≡ true → in_body r.values (rows * 16) size ≡ true

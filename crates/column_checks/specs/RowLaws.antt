@@ -1,5 +1,5 @@
 -- The check 7: one view, and the first row whose view is not valid.
-use Rattle.std.specs.Prelude.{ℕ, ◌+◌, ◌*◌, ◌≤◌, ◌<◌, ◌≡◌, Bool, true, false, List, length}
+use Rattle.std.specs.Prelude.{ℕ, ◌+◌, ◌*◌, ◌≤◌, ◌<◌, ◌≡◌, Bool, true, false, List, length, Some, None}
 use Rattle.std.proofs.Math.Path.{ap}
 use Rattle.std.proofs.Common.{arith}
 use borrow.Author.Tests.{le-leb, lt-leb, lt-ltb, le-ltb}
@@ -15,8 +15,7 @@ use Rattle.views.specs.View.{view_of, is_padded, in_buffer, is_valid, filled}
 use Rattle.rules.specs.declared.ColumnRecord.{ColumnRecord}
 use Rattle.rules.specs.Batch.{bytes_listed}
 use Rattle.rules.specs.Checks.{in_body}
-use Rattle.rules.specs.Views.{or_all}
-use Rattle.column_checks.specs.Tested.{buffer_in, bad_at, bad_from, Heeded}
+use Rattle.column_checks.specs.Tested.{found, buffer_in, bad_at, bad_in, Heeded}
 use Rattle.column_checks.specs.RuleLaws.{body_says, held_used}
 
 -- ---- one view
@@ -68,10 +67,10 @@ module _ (books pool body : List ℕ) (r : ColumnRecord) where
   unfolding bad_at
   bad_more {i} o p q z = passed_more o (rw (← p, ← q, z))
 
-  pub bad_at_lem : {i : ℕ} {v : View} {x : Bool} (rows : ℕ) → Passed (bad_at books pool body r) i → i < rows → v ≡ view_of body (r.values + i * 16) → x ≡ is_valid v (bytes_listed books pool body r.list) r.count → x ≡ false → i ≡ bad_from books pool body r rows
-  unfolding bad_at bad_from
-  bad_at_lem {i} rows o l p q z = ap (or_all rows) (passed_at rows o l (rw (← p, ← q, z)))
+  pub bad_at_lem : {i : ℕ} {v : View} {x : Bool} (rows : ℕ) → Passed (bad_at books pool body r) i → i < rows → v ≡ view_of body (r.values + i * 16) → x ≡ is_valid v (bytes_listed books pool body r.list) r.count → x ≡ false → Some i ≡ bad_in books pool body r rows
+  unfolding bad_at bad_in
+  bad_at_lem {i} rows o l p q z = ap found (passed_at rows o l (rw (← p, ← q, z)))
 
-  pub bad_all : {i : ℕ} (rows : ℕ) → Passed (bad_at books pool body r) i → rows ≤ i → rows ≡ bad_from books pool body r rows
-  unfolding bad_from
-  bad_all rows o l = ap (or_all rows) (passed_all rows o l)
+  pub bad_all : {i : ℕ} (rows : ℕ) → Passed (bad_at books pool body r) i → rows ≤ i → None ≡ bad_in books pool body r rows
+  unfolding bad_in
+  bad_all rows o l = ap found (passed_all rows o l)

@@ -1,5 +1,6 @@
 -- What the checks ask of books and pool, and the parts of the checks of a column that stand in functions of their own.
-use Rattle.std.specs.Prelude.{ℕ, ◌+◌, ◌*◌, ◌≤◌, ◌<◌, ◌≡◌, Bool, not, true, cond, ◌&&◌, List, length, eqb}
+use Rattle.std.specs.Prelude.{ℕ, ◌+◌, ◌*◌, ◌≤◌, ◌<◌, ◌≡◌, Bool, not, true, cond, ◌&&◌, List, length, eqb, Option, Some, None}
+use Rattle.std.proofs.Math.Option.{Option as Lowest, none, some}
 use Rattle.search.specs.First.{first}
 use Rattle.books.specs.Entry.{used_of, entry_of}
 use Rattle.pool.specs.Register.{is_held}
@@ -10,7 +11,6 @@ use Rattle.views.specs.View.{view_of, is_valid}
 use Rattle.rules.specs.declared.ColumnRecord.{ColumnRecord}
 use Rattle.rules.specs.Batch.{has_bitmap, bytes_listed}
 use Rattle.rules.specs.Checks.{in_body, bitmap_need}
-use Rattle.rules.specs.Views.{or_all}
 
 -- 4: the rules of validity and of the list, as `is_ruled` has them
 unfoldable pub bit_ruled : ColumnRecord → Bool
@@ -33,9 +33,14 @@ unfoldable pub bad_at : List ℕ → List ℕ → List ℕ → ColumnRecord → 
 bad_at books pool body r i =
     not (is_valid (view_of body (r.values + i * 16)) (bytes_listed books pool body r.list) r.count)
 
--- 7: the first of the rows whose view is not valid, and their count where all are
-unfoldable pub bad_from : List ℕ → List ℕ → List ℕ → ColumnRecord → ℕ → ℕ
-bad_from books pool body r rows = or_all rows (first (bad_at books pool body r) rows)
+-- the lowest number, as the code answers it
+abbrev pub found : Lowest ℕ → Option ℕ
+found none = None
+found (some i) = Some i
+
+-- 7: the first of the rows whose view is not valid
+unfoldable pub bad_in : List ℕ → List ℕ → List ℕ → ColumnRecord → ℕ → Option ℕ
+bad_in books pool body r rows = found (first (bad_at books pool body r) rows)
 
 -- books with an entry for each number in use, and every buffer of these within the pool
 pub record Pooled (books pool : List ℕ) : Type 0 where

@@ -8,7 +8,7 @@ ghost use Rattle.pool.specs.Register.{is_held};
 ghost use Rattle.views.specs.View.{is_valid};
 ghost use Rattle.rules.specs.Batch.{bytes_listed};
 ghost use Rattle.rules.specs.Checks.{is_ruled, in_body, bitmap_need, lies_within, held_all};
-ghost use Rattle.column_checks.specs.Tested.{bit_ruled, list_ruled, bits_within, buffer_in, bad_from, Heeded};
+ghost use Rattle.column_checks.specs.Tested.{bit_ruled, list_ruled, bits_within, buffer_in, bad_in, Heeded};
 
 use counts::{BufferNumber, ByteCount, ByteSum, RowCount};
 use rules::ColumnRecord;
@@ -128,16 +128,22 @@ fn is_valid(v: View, books: &[u8], pool: &[u8], body: &[u8], list: u32, count: u
     }
 }
 
-// 7: the first of the rows whose view is not valid, and their count where all are.
-pub fn bad_row(books: &[u8], pool: &[u8], body: &[u8], r: ColumnRecord, rows: RowCount) -> u32
+// 7: the first of the rows whose view is not valid.
+pub fn bad_row(
+    books: &[u8],
+    pool: &[u8],
+    body: &[u8],
+    r: ColumnRecord,
+    rows: RowCount,
+) -> Option<u32>
     requires { (Heeded books.now pool.now body.now r.list r.count) × (rows.0 ≤ 65536) × (in_body r.values (rows.0 * 16) (length body.now) ≡ true) }
-    ensures { result ≡ bad_from books.now pool.now body.now r rows.0 }
+    ensures { result ≡ bad_in books.now pool.now body.now r rows.0 }
 {
     for i in 0..rows.0 {
         let v = views::view_at(body, (r.values as usize) + (i as usize) * 16);
         if !is_valid(v, books, pool, body, r.list, r.count) {
-            return i;
+            return Some(i);
         }
     }
-    rows.0
+    None
 }

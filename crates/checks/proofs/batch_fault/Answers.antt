@@ -1,9 +1,12 @@
 -- `checks::batch_fault` meets its contract.
-use Prim.Native.Nat.{◌-◌}
 use borrow.Author.Rules.{rules}
+use Rattle.std.proofs.lemmas.Result.{err_from_is_err_and}
 use Rattle.checks.specs.BatchLaws.{wrong_records, many_rows, faulty_none, faulty_more, faulty_at_lem, faulty_all}
 use Rattle.layout.specs.ExitLaws.{column_is}
 use Rattle.checks.proofs.batch_fault.Goals as goal
+
+pub returns-then-records-s : goal.returns-then-records-s
+returns-then-records-s c = search (wrong_records, rules)
 
 pub returns-then-s-rows : goal.returns-then-s-rows
 returns-then-s-rows c = search (many_rows, rules)
@@ -11,17 +14,17 @@ returns-then-s-rows c = search (many_rows, rules)
 pub loop-c-init : goal.loop-c-init
 loop-c-init c = search (faulty_none, rules)
 
-pub column_fault-f-requires : goal.column_fault-f-requires
-column_fault-f-requires c = (search rules, search rules, search rules, search rules, search rules, column_is _ _)
+pub column_fault-requires : goal.column_fault-requires
+column_fault-requires c = (search rules, search rules, search rules, search rules, search rules, column_is _ _)
 
 pub loop-c-preserved : goal.loop-c-preserved
-loop-c-preserved c = (search rules, faulty_more _ _ _ _ _ _ c.loop-c.invariant.1 c.column_fault-f.ensures c.if-f-eq0.true)
+loop-c-preserved c = faulty_more _ _ _ _ _ _ c.loop-c.invariant c.in_ok-column_fault.ensures
 
-pub returns-else-f-eq0 : goal.returns-else-f-eq0
-returns-else-f-eq0 c = search (faulty_at_lem, rules)
+pub returns-in_err-column_fault : goal.returns-in_err-column_fault
+returns-in_err-column_fault c =
+    let p = err_from_is_err_and c.from_residual.result c.from_residual.ensures.1 in
+    rw (p.1, p.2)
+    (faulty_at_lem _ _ _ _ _ _ c.if-records-s.false c.if-s-rows.false c.loop-c.invariant c.loop-c-test.true c.in_err-column_fault.ensures)
 
-pub returns-after-loop-c : goal.returns-after-loop-c
-returns-after-loop-c c = search (faulty_all, rules)
-
-pub returns-else-records-s : goal.returns-else-records-s
-returns-else-records-s c = search (wrong_records, rules)
+pub returns : goal.returns
+returns c = search (faulty_all, rules)
