@@ -12,7 +12,7 @@ use Rattle.primitive.specs.declared.Rows.{Rows}
 use Rattle.primitive.specs.LaidLaws.{record_any}
 use Rattle.rules.specs.declared.ColumnRecord.{ColumnRecord}
 use Rattle.rules.specs.declared.Way.{Way}
-use Rattle.rules.specs.Batch.{Batch, batch, record_of, way}
+use Rattle.rules.specs.Batch.{Batch, batch, record_of}
 use Rattle.rules.specs.Steps.{Res, ok, refuse, bind, for_each, with_counts, buffering}
 use Rattle.rules.specs.Views.{column_copied, part_copied}
 use Rattle.rules.specs.Push.{part_taken, if_full}

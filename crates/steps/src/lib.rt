@@ -88,8 +88,7 @@ fn copy_part(
 {
     let mut t = s;
     let mut place = layout::values_place(s, s.place, 0);
-    let mut c: u32 = 0;
-    while c < s.columns {
+    for c in 0..s.columns {
         let at = c as usize;
         let source = sources.column[at];
         let p = Rows {
@@ -101,20 +100,17 @@ fn copy_part(
         };
         let column = s.column[at];
         let kind = column.kind;
-        place = place + layout::column_size(kind, s.rows, s.lists);
-        c += 1;
+        place += layout::column_size(kind, s.rows, s.lists);
         let way = source.way;
-        match way {
-            Way::Copied => copy_as_is(t, slots, pool, books, records, body, rows, kind, p),
-            _ => {
-                let step = copy_column(t, slots, pool, books, records, body, rows, source, p);
-                if step.number == 0 {
-                    t = step.state;
-                } else {
-                    return step;
-                }
-            }
+        if let Way::Copied = way {
+            copy_as_is(t, slots, pool, books, records, body, rows, kind, p);
+            continue;
         }
+        let step = copy_column(t, slots, pool, books, records, body, rows, source, p);
+        if step.number != 0 {
+            return step;
+        }
+        t = step.state;
     }
     let buffered = RowCount(s.buffered.0 + n.0);
     t.buffered = buffered;
@@ -167,14 +163,14 @@ fn coalesce_rows(
 {
     let mut t = s;
     let mut from: u32 = 0;
+    // Kept: no range has these turns, each goes on by the rows that the slot still takes.
     while t.target.0 - t.buffered.0 < rows.0 - from {
         let n = RowCount(t.target.0 - t.buffered.0);
         let step = copy_and_finish(t, slots, pool, books, records, body, rows, sources, from, n);
-        if step.number == 0 {
-            t = step.state;
-        } else {
+        if step.number != 0 {
             return step;
         }
+        t = step.state;
         from += n.0;
     }
     copy_and_finish(

@@ -36,25 +36,18 @@ fn try_part(
         × (TellsPart s books.old sources records.now body.now from n.0 result books.new) }
 {
     let mut t = s;
-    let mut c: u32 = 0;
-    while c < s.columns {
-        let at = c as usize;
-        let source = sources.column[at];
-        let here = c;
-        let r = records::record_at(records, here);
-        c += 1;
+    for c in 0..s.columns {
+        let source = sources.column[c as usize];
+        let r = records::record_at(records, c);
         let way = source.way;
-        match way {
-            Way::Copied => {}
-            _ => {
-                let step = trial_column::try_column(t, books, body, r, source, here, from, n);
-                if step.number == 0 {
-                    t = step.state;
-                } else {
-                    return step;
-                }
-            }
+        if let Way::Copied = way {
+            continue;
         }
+        let step = trial_column::try_column(t, books, body, r, source, c, from, n);
+        if step.number != 0 {
+            return step;
+        }
+        t = step.state;
     }
     let buffered = RowCount(s.buffered.0 + n.0);
     t.buffered = buffered;
@@ -83,15 +76,12 @@ fn close_all(s: BatchCoalescer) -> BatchCoalescer
     ensures { (ClosesFirst s result s.columns) × (result ≡ closed_to s s.columns) }
 {
     let mut t = s;
-    let mut c: u32 = 0;
-    while c < s.columns {
-        let at = c as usize;
-        let column = s.column[at];
-        let here = c;
-        c += 1;
-        if kinds::is_view(column.kind) {
-            t = close_one(t, here);
+    for c in 0..s.columns {
+        let column = s.column[c as usize];
+        if !kinds::is_view(column.kind) {
+            continue;
         }
+        t = close_one(t, c);
     }
     t
 }
@@ -106,19 +96,17 @@ fn try_finish(s: BatchCoalescer) -> Step
             state: s,
             number: 0,
         }
+    } else if s.queued < s.queue {
+        let t = close_all(s);
+        let u = slot_counts::next_to_fill(t);
+        Step {
+            state: u,
+            number: 0,
+        }
     } else {
-        if s.queued < s.queue {
-            let t = close_all(s);
-            let u = slot_counts::next_to_fill(t);
-            Step {
-                state: u,
-                number: 0,
-            }
-        } else {
-            Step {
-                state: s,
-                number: 9,
-            }
+        Step {
+            state: s,
+            number: 9,
         }
     }
 }
@@ -167,14 +155,14 @@ fn try_rows(
 {
     let mut t = s;
     let mut from: u32 = 0;
+    // Kept: no range has these turns, each goes on by the rows that the slot still takes.
     while t.target.0 - t.buffered.0 < rows.0 - from {
         let n = RowCount(t.target.0 - t.buffered.0);
         let step = try_and_finish(t, books, records, body, sources, from, n);
-        if step.number == 0 {
-            t = step.state;
-        } else {
+        if step.number != 0 {
             return step.number;
         }
+        t = step.state;
         from += n.0;
     }
     try_and_finish(

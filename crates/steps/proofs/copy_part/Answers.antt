@@ -1,5 +1,4 @@
 -- `steps::copy_part` meets its contract.
-use Prim.Native.Nat.{◌-◌}
 use mathlib.Core.Path.{refl}
 use native.Mathlib.Omega.{arith}
 use borrow.Author.Rules.{rules}
@@ -11,37 +10,37 @@ pub values_place-place-requires : goal.values_place-place-requires
 values_place-place-requires c = (search (part_few, rules), search (part_slot, rules), omega arith)
 
 pub loop-c-init : goal.loop-c-init
-loop-c-init c = (omega arith, search (part_columns, rules), refl, refl, refl, search rules, search (copied_none, rules))
+loop-c-init c = (search (part_columns, rules), refl, refl, refl, search rules, search (copied_none, rules))
 
 pub column_size-place-requires : goal.column_size-place-requires
 column_size-place-requires c = let few = part_few c.requires in (few.rows, few.lists)
 
 pub overflow_add-place : goal.overflow_add-place
-overflow_add-place c = place-fits _ (part_few c.requires) c.requires.run.fit.place c.loop-c-test.true c.loop-c.invariant.5 c.column_size-place.ensures.1
+overflow_add-place c = place-fits _ (part_few c.requires) c.requires.run.fit.place c.loop-c-test.true c.loop-c.invariant.4 c.column_size-place.ensures.1
 
 pub copy_as_is-requires : goal.copy_as_is-requires
-copy_as_is-requires c = as_is_asks c.requires c.loop-c.invariant.6 c.loop-c-test.true c.loop-c.invariant.5
+copy_as_is-requires c = as_is_asks c.requires c.loop-c.invariant.5 c.loop-c-test.true c.loop-c.invariant.4
 
 pub loop-c-preserved-in-Copied : goal.loop-c-preserved-in-Copied
-loop-c-preserved-in-Copied c = (omega (arith, c.loop-c-test.true), c.loop-c.invariant.1, search rules, search rules, search rules, place-more _ (part_few c.requires) c.requires.run.fit.place c.loop-c-test.true c.loop-c.invariant.5 c.column_size-place.ensures.0, copied_as_is c.requires c.loop-c.invariant.6 c.loop-c-test.true c.loop-c.place (search rules) c.copy_as_is.ensures)
+loop-c-preserved-in-Copied c = (c.loop-c.invariant.0, search rules, search rules, search rules, place-more _ (part_few c.requires) c.requires.run.fit.place c.loop-c-test.true c.loop-c.invariant.4 c.column_size-place.ensures.0, copied_as_is c.requires c.loop-c.invariant.5 c.loop-c-test.true c.loop-c.place (search rules) c.copy_as_is.ensures)
 
 pub copy_column-step-requires : goal.copy_column-step-requires
-copy_column-step-requires c = copied_asks c.requires c.loop-c.invariant.6 c.loop-c-test.true c.loop-c.invariant.5
+copy_column-step-requires c = copied_asks c.requires c.loop-c.invariant.5 c.loop-c-test.true c.loop-c.invariant.4
 
 pub loop-c-preserved : goal.loop-c-preserved
-loop-c-preserved c = (omega (arith, c.loop-c-test.true), c.loop-c.invariant.1, search (c.copy_column-step.auto.slots, c.loop-c.invariant.2, rules), search (c.copy_column-step.auto.pool, c.loop-c.invariant.3, rules), search (c.copy_column-step.auto.books, c.loop-c.invariant.4, rules), place-more _ (part_few c.requires) c.requires.run.fit.place c.loop-c-test.true c.loop-c.invariant.5 c.column_size-place.ensures.0, copied_more c.requires c.loop-c.invariant.6 c.loop-c-test.true c.loop-c.place c.copy_column-step.ensures c.if-step-eq0.true)
+loop-c-preserved c = (c.loop-c.invariant.0, search (c.copy_column-step.auto.slots, c.loop-c.invariant.1, rules), search (c.copy_column-step.auto.pool, c.loop-c.invariant.2, rules), search (c.copy_column-step.auto.books, c.loop-c.invariant.3, rules), place-more _ (part_few c.requires) c.requires.run.fit.place c.loop-c-test.true c.loop-c.invariant.4 c.column_size-place.ensures.0, copied_more c.requires c.loop-c.invariant.5 c.loop-c-test.true c.loop-c.place c.copy_column-step.ensures c.if-step-ne0.false)
 
-pub shape_of-slots-else-step-eq0 : goal.shape_of-slots-else-step-eq0
-shape_of-slots-else-step-eq0 c = search (c.copy_column-step.auto.slots, c.loop-c.invariant.2, rules)
+pub shape_of-slots-then-step-ne0 : goal.shape_of-slots-then-step-ne0
+shape_of-slots-then-step-ne0 c = search (c.copy_column-step.auto.slots, c.loop-c.invariant.1, rules)
 
-pub shape_of-pool-else-step-eq0 : goal.shape_of-pool-else-step-eq0
-shape_of-pool-else-step-eq0 c = search (c.copy_column-step.auto.pool, c.loop-c.invariant.3, rules)
+pub shape_of-pool-then-step-ne0 : goal.shape_of-pool-then-step-ne0
+shape_of-pool-then-step-ne0 c = search (c.copy_column-step.auto.pool, c.loop-c.invariant.2, rules)
 
-pub shape_of-books-else-step-eq0 : goal.shape_of-books-else-step-eq0
-shape_of-books-else-step-eq0 c = search (c.copy_column-step.auto.books, c.loop-c.invariant.4, rules)
+pub shape_of-books-then-step-ne0 : goal.shape_of-books-then-step-ne0
+shape_of-books-then-step-ne0 c = search (c.copy_column-step.auto.books, c.loop-c.invariant.3, rules)
 
-pub returns-else-step-eq0 : goal.returns-else-step-eq0
-returns-else-step-eq0 c = copied_stop c.requires c.loop-c.invariant.6 c.loop-c-test.true c.loop-c.place c.copy_column-step.ensures c.if-step-eq0.false
+pub returns-then-step-ne0 : goal.returns-then-step-ne0
+returns-then-step-ne0 c = copied_stop c.requires c.loop-c.invariant.5 c.loop-c-test.true c.loop-c.place c.copy_column-step.ensures c.if-step-ne0.true
 
 pub overflow_add-buffered : goal.overflow_add-buffered
 overflow_add-buffered c = omega (arith, part_fits c.requires)

@@ -1,5 +1,4 @@
 -- `trial::try_rows` meets its contract.
-use Prim.Native.Nat.{◌-◌}
 use mathlib.Core.Path.{refl}
 use native.Mathlib.Omega.{arith}
 use Rattle.trial_truth.specs.CutLaws.{cut_first, cut_more, cut_stops, cut_last}
@@ -26,8 +25,8 @@ try_and_finish-step-requires c = (
   omega (arith, (trying_bounds c.loop-t.invariant.3.trying).target, (trying_bounds c.loop-t.invariant.3.trying).rows, c.loop-t.invariant.1),
 )
 
-pub returns-else-step-eq0 : goal.returns-else-step-eq0
-returns-else-step-eq0 c = (turn_marks c.loop-t.invariant.3 c.try_and_finish-step.ensures.0, cut_stops c.loop-t.invariant.4 c.loop-t-test.true c.loop-t.invariant.1 c.try_and_finish-step.ensures.1 c.if-step-eq0.false)
+pub returns-then-step-ne0 : goal.returns-then-step-ne0
+returns-then-step-ne0 c = (turn_marks c.loop-t.invariant.3 c.try_and_finish-step.ensures.0, cut_stops c.loop-t.invariant.4 c.loop-t-test.true c.loop-t.invariant.1 c.try_and_finish-step.ensures.1 c.if-step-ne0.true)
 
 pub overflow_add-from : goal.overflow_add-from
 overflow_add-from c = omega (arith, c.loop-t-test.true, c.loop-t.invariant.0, c.requires.1.rows_fit)
@@ -36,7 +35,7 @@ pub loop-t-smaller : goal.loop-t-smaller
 loop-t-smaller c = omega (arith, c.loop-t-test.true, c.loop-t.invariant.1)
 
 pub loop-t-preserved : goal.loop-t-preserved
-loop-t-preserved c = (omega (arith, c.loop-t-test.true, c.loop-t.invariant.0), turn_below c.loop-t.invariant.1 c.try_and_finish-step.ensures.0 c.if-step-eq0.true, tries_length (turn-done c.loop-t.invariant.3 c.try_and_finish-step.ensures.0), turn-done c.loop-t.invariant.3 c.try_and_finish-step.ensures.0, cut_more c.loop-t.invariant.4 c.loop-t-test.true c.loop-t.invariant.1 c.try_and_finish-step.ensures.1 c.try_and_finish-step.ensures.0.tries.set_up c.if-step-eq0.true)
+loop-t-preserved c = (omega (arith, c.loop-t-test.true, c.loop-t.invariant.0), turn_below c.loop-t.invariant.1 c.try_and_finish-step.ensures.0 c.if-step-ne0.false, tries_length (turn-done c.loop-t.invariant.3 c.try_and_finish-step.ensures.0), turn-done c.loop-t.invariant.3 c.try_and_finish-step.ensures.0, cut_more c.loop-t.invariant.4 c.loop-t-test.true c.loop-t.invariant.1 c.try_and_finish-step.ensures.1 c.try_and_finish-step.ensures.0.tries.set_up c.if-step-ne0.false)
 
 pub overflow_sub-rows-2 : goal.overflow_sub-rows-2
 overflow_sub-rows-2 c = omega (arith, c.loop-t.invariant.0)
