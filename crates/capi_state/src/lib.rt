@@ -42,7 +42,7 @@ pub fn pw_has_completed_batch(state: &[u8]) -> u32
 {
     let coded = decoding::decode(state);
     let s = coded.state;
-    crossing::flag(queries::has_completed_batch(s))
+    u32::from(queries::has_completed_batch(s))
 }
 
 // 1 where nothing is buffered or queued, else 0.
@@ -51,5 +51,5 @@ pub fn pw_is_empty(state: &[u8]) -> u32
 {
     let coded = decoding::decode(state);
     let s = coded.state;
-    crossing::flag(queries::is_empty(s))
+    u32::from(queries::is_empty(s))
 }

@@ -1,6 +1,7 @@
 -- What the writing functions leave: each puts words behind those that stand already.
 use Rattle.std.specs.Prelude.{ℕ, suc, ◌+◌, ◌*◌, ◌/◌, ◌%◌, ◌≤◌, ◌<◌, ◌≡◌, refl, List, [], ◌∷◌, ◌++◌, length, take, drop, get_or, set}
 use Rattle.std.proofs.Common.{sym, ◌∙◌, ap, append_assoc, append-nil, arith, length-set, take-suc-set, take_all, drop-set-lt}
+use Rattle.std.proofs.lemmas.List.{take_more}
 use Rattle.words.specs.Word.{with_word32}
 use Rattle.words.specs.WordLaws.{length-with_word32}
 use Rattle.state.specs.declared.BatchCoalescer.{BatchCoalescer}
@@ -73,11 +74,18 @@ two_put b {t} at v w e f h =
     let l : length t ≡ length b = rw e (length-with_word32 b at v) in
     put_next b t at (at + 4) (at + 8) w (v ∷ []) (rw e (word_put b at v (omega arith))) f (omega arith) (omega arith)
 
-pub three_put : (b : List ℕ) {t u r : List ℕ} (at v w x : ℕ) → t ≡ with_word32 b at v → u ≡ with_word32 t (at + 4) w → r ≡ with_word32 u (at + 8) x → at + 12 ≤ length b → take (at + 12) r ≡ take at b ++ bytes_of (v ∷ w ∷ x ∷ [])
-three_put b {t} {u} at v w x e f g h =
-    let l : length t ≡ length b = rw e (length-with_word32 b at v) in
-    let k : length u ≡ length t = rw f (length-with_word32 t (at + 4) w) in
-    put_next b u at (at + 8) (at + 12) x (v ∷ w ∷ []) (two_put b at v w e f (omega arith)) g (omega arith) (omega arith)
+-- words, one after another: none yet, one more, all
+pub words_put_none : (b ws : List ℕ) (at : ℕ) → take (at + 4 * 0) b ≡ take at b ++ bytes_of (take 0 ws)
+unfolding bytes_of
+words_put_none b ws at = let n : at + 4 * 0 ≡ at = omega arith in rw n (sym (append-nil (take at b)))
+
+pub words_put_more : (b t ws : List ℕ) {u : List ℕ} (at i : ℕ) → take (at + 4 * i) t ≡ take at b ++ bytes_of (take i ws) → u ≡ with_word32 t (at + 4 * i) (get_or ws i 0) → i < length ws → at + 4 * length ws ≤ length t → take (at + 4 * (i + 1)) u ≡ take at b ++ bytes_of (take (i + 1) ws)
+words_put_more b t ws at i e f h l =
+    rw (take_more ws i 0 h)
+    (put_next b t at (at + 4 * i) (at + 4 * (i + 1)) (get_or ws i 0) (take i ws) e f (omega arith) (omega arith))
+
+pub words_put_all : (b t ws : List ℕ) (at n : ℕ) → take (at + 4 * n) t ≡ take at b ++ bytes_of (take n ws) → n ≡ length ws → take (at + 4 * n) t ≡ take at b ++ bytes_of ws
+words_put_all b t ws at n e h = e ∙ ap (λ (l : List ℕ). take at b ++ bytes_of l) (take_all n ws (omega arith))
 
 pub set_up_put : (s : BatchCoalescer) (b t u r : List ℕ) → take 8 t ≡ take 0 b ++ bytes_of (s.target.0 ∷ s.rows.0 ∷ []) → take 16 u ≡ take 8 t ++ bytes_of (s.queue ∷ s.columns ∷ []) → take 28 r ≡ take 16 u ++ bytes_of (s.lists ∷ s.numbers ∷ s.pool.0 ∷ []) → take 28 r ≡ bytes_of (set_up_words s)
 unfolding set_up_words

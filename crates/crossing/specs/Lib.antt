@@ -1,4 +1,3 @@
 -- Answers as numbers and words, and the laws that the proofs cite.
 pub mod Cross
 pub mod CrossLaws
-pub mod KeepLaws

@@ -1,11 +1,11 @@
 // What crosses the C layer: answers as numbers and as words, the state kept in bytes, bytes copied out, kinds from words. docs/HOST.md has the forms.
 #![tactic(auto)]
 
-ghost use Rattle.std.specs.Prelude.{◌≡◌, cond, [], ◌∷◌, ◌≤◌, ◌/◌, length};
+ghost use Rattle.std.specs.Prelude.{◌≡◌, ◌≤◌, ◌/◌, length};
 ghost use Rattle.words.specs.Run.{lay};
 ghost use Rattle.pool.specs.Register.{refusal_of};
 ghost use Rattle.rules.specs.Calls.{row_refusal};
-ghost use Rattle.codes.specs.Code.{state_bytes, bytes_of};
+ghost use Rattle.codes.specs.Code.{state_bytes};
 ghost use Rattle.crossing.specs.Cross.{KeepsState, pair, number_in, limit_pair, place_words, row_bytes, kinds_to};
 
 use state::{BatchCoalescer, Place, RowAnswer};
@@ -14,7 +14,7 @@ use state::{BatchCoalescer, Place, RowAnswer};
 pub fn both(refusal: u32, value: u32) -> u64
     ensures { result ≡ pair refusal value }
 {
-    (refusal as u64) * 4294967296 + (value as u64)
+    (u64::from(refusal) << 32) | u64::from(value)
 }
 
 // What registering answers: the refusal, and the buffer's number.
@@ -37,34 +37,17 @@ pub fn limit_pair(limit: Option<RowCount>) -> u64
     }
 }
 
-// 1 for yes, 0 for no.
-pub fn flag(b: bool) -> u32
-    ensures { result ≡ cond b 1 0 }
-{
-    if b { 1 } else { 0 }
-}
-
-// Five words in 20 bytes.
-fn put_five(out: &mut [u8], a: u32, b: u32, c: u32, d: u32, e: u32)
-    requires { length out.old ≡ 20 }
-    ensures { out.new ≡ bytes_of (a ∷ b ∷ c ∷ d ∷ e ∷ []) }
-{
-    encoding::put_two(out, 0, a, b);
-    encoding::put_three(out, 8, c, d, e);
-}
-
-// Where a value is.
-fn put_place(out: &mut [u8], place: Place)
-    requires { length out.old ≡ 20 }
-    ensures { out.new ≡ bytes_of (place_words place) }
+// Where a value is, in five words.
+fn place_words(place: Place) -> [u32; 5]
+    ensures { result ≡ place_words place }
 {
     match place {
         Place::InRow(start, n) => {
             let low = (start % 4294967296) as u32;
             let high = (start / 4294967296) as u32;
-            put_five(out, 1, low, high, 0, n.0);
+            [1, low, high, 0, n.0]
         }
-        Place::InBuffer(k, offset, n) => put_five(out, 2, k.0, 0, offset, n.0),
+        Place::InBuffer(k, offset, n) => [2, k.0, 0, offset, n.0],
     }
 }
 
@@ -75,11 +58,11 @@ pub fn put_answer(out: &mut [u8], answer: RowAnswer) -> u32
 {
     match answer {
         RowAnswer::Null => {
-            put_five(out, 0, 0, 0, 0, 0);
+            encoding::put_words(out, 0, [0; 5]);
             0
         }
         RowAnswer::Value(place) => {
-            put_place(out, place);
+            encoding::put_words(out, 0, place_words(place));
             0
         }
         RowAnswer::Refused(number) => number,
@@ -90,8 +73,8 @@ pub fn put_answer(out: &mut [u8], answer: RowAnswer) -> u32
 pub fn copy_front(out: &mut [u8], part: &[u8])
     ensures { out.new ≡ lay 0 part.now out.old }
 {
-    let n = counts::smaller(out.len() as u64, part.len() as u64) as usize;
-    words::put_part(out, 0, part, 0, n);
+    let n = out.len().min(part.len());
+    out[..n].copy_from_slice(&part[..n]);
 }
 
 // The kinds that set-up is asked for, from words; 0 past the last.
@@ -100,10 +83,8 @@ pub fn kinds_of(kinds: &[u8]) -> [u32; 16]
     ensures { result ≡ kinds_to kinds.now (length kinds.now / 4) }
 {
     let mut all: [u32; 16] = [0; 16];
-    let mut c: usize = 0;
-    while 4 * c + 4 <= kinds.len() {
+    for c in 0..kinds.len() / 4 {
         all[c] = words::get32(kinds, 4 * c);
-        c += 1;
     }
     all
 }

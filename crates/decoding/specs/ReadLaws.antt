@@ -1,14 +1,24 @@
 -- What the reading functions answer: a law for each way out.
-use Rattle.std.specs.Prelude.{ℕ, suc, ◌+◌, ◌≤◌, ◌<◌, ◌≡◌, refl, Bool, List, length, take, set, eqb}
+use Rattle.std.specs.Prelude.{ℕ, zero, suc, ◌+◌, ◌<◌, ◌≡◌, refl, Bool, List, length, get_or, eqb}
 use Rattle.std.proofs.Math.Path.{sym}
-use Rattle.std.proofs.Common.{◌∙◌, arith, take-suc-set, take_all, eq-eqb, ne_eqb}
+use Rattle.std.proofs.Common.{◌∙◌, arith, zero-add, eq-eqb, ne_eqb}
+use Rattle.std.proofs.lemmas.List.{ext_get_or}
+use Rattle.std.proofs.lemmas.List.FromFn.{length-range_with_len, get_or-range_with_len}
+use Rattle.std.specs.List.{range_with_len, AllWithin, HoldsAt}
+use Rattle.std.specs.Bool.{MatchBool}
+use Rattle.std.specs.Array.{IsFromFnResult, IsFromFnResultFrom}
+use denote.Param.Members.{Mut, Called}
 use Rattle.std.proofs.Math.Bool.{true, false}
-use Rattle.search.specs.Every.{every, All, all_more, all_fails, all_done}
+use Rattle.search.specs.Every.{every, every_is, all_fails}
 use Rattle.search.specs.Cases.{both_fails, both_rest}
 use Rattle.words.specs.Word.{word32}
 use Rattle.state.specs.declared.BatchCoalescer.{BatchCoalescer}
 use Rattle.state.specs.declared.Column.{Column}
+use Rattle.state.specs.declared.Limit.{Limit}
+use Rattle.state.specs.declared.OpenBlock.{OpenBlock}
+use Rattle.state.specs.World.{no_column}
 use Rattle.codes.specs.declared.Coded.{Coded}
+use Rattle.codes.specs.TakeLaws.{length-columns_in, get_d_columns_in}
 use Rattle.codes.specs.Code.{
 use Rattle.std.specs.Prelude.{Option, Some, None}
 use Rattle.counts.specs.declared.BufferNumber.{BufferNumber}
@@ -57,26 +67,38 @@ pub column_is : (b : List ℕ) (c : ℕ) {k n f w : ℕ} {o : Option BufferNumbe
 unfolding column_in
 column_is b c p q r t u = rw (u, p, q, r, t)
 
--- the columns, one after another: none yet, one more, all
-pub columns_none : (b : List ℕ) (l : List Column) → take 0 l ≡ columns_in b 0
-unfolding columns_in
-columns_none b l = refl
+-- what an array's from_fn returns, of a closure that stays as it is: each element as one call gives it
+module _ {F B : Type 0} {g : Mut F (ℕ × Unit {0}) B} {f : F} (P : ℕ → B → Type 0) (once : (i : ℕ) (y : B) (q : F) → Called g f (i, tt) y q → (q ≡ f) × P i y) where
+  each_from : (n i : ℕ) {e : F} (ys : List B) (d : B) → e ≡ f → IsFromFnResultFrom g e ys i n → (k : ℕ) → k < n → P (i + k) (get_or ys (i + k) d)
+  each_from zero i ys d e r k h = absurd (omega arith)
+  each_from (suc n) i ys d e (q, y, at, called, rest) zero h =
+      let z : i + 0 ≡ i = omega arith in
+      rw (z, at.1 d) (once i y q (rw e at called)).1
+  each_from (suc n) i ys d e (q, y, at, called, rest) (suc k) h =
+      let z : i + suc k ≡ i + 1 + k = omega arith in
+      rw z (each_from n (i + 1) ys d (once i y q (rw e at called)).0 rest k (omega arith))
 
-pub columns_more : (b : List ℕ) (l : List Column) (c : ℕ) {d : Column} → take c l ≡ columns_in b c → d ≡ column_in b c → length l ≡ 16 → c < 16 → take (c + 1) (set l c d) ≡ columns_in b (c + 1)
-unfolding columns_in
-columns_more b l c {d} e f h k =
-    let n : c + 1 ≡ suc c = omega arith in
-    rw n (take-suc-set l c d (omega arith) ∙ rw (e, f))
+  pub each_made : {n : ℕ} {ys : List B} (d : B) → IsFromFnResult g f ys n → (k : ℕ) → k < n → P k (get_or ys k d)
+  each_made {n} {ys} d r k h = let z : 0 + k ≡ k = omega arith in rw z at (each_from n 0 ys d refl r.each k h)
 
-pub columns_all : (b : List ℕ) (l : List Column) (c : ℕ) → take c l ≡ columns_in b c → length l ≡ 16 → c ≤ 16 → 16 ≤ c → l ≡ columns_in b 16
-columns_all b l c e h k n =
-    let q : c ≡ 16 = omega arith in
-    sym (take_all 16 l (omega arith)) ∙ rw q at e
+-- what columns_of returns: 16 columns, each as it is read
+pub columns_are : (b : List ℕ) (l : List Column) → length l ≡ 16 → ((c : ℕ) → c < 16 → get_or l c no_column ≡ column_in b c) → l ≡ columns_in b 16
+columns_are b l n h =
+    ext_get_or no_column l (columns_in b 16) (n ∙ sym (length-columns_in b 16))
+    (λ c k. h c (omega arith) ∙ sym (get_d_columns_in b 16 c (omega arith)))
 
 -- what state_of returns
 pub state_is : (b : List ℕ) {t r q c l n p f w k m u : ℕ} {o : Option RowCount} {ds : List Column} → ds ≡ columns_in b 16 → t ≡ word32 b 0 → r ≡ word32 b 4 → q ≡ word32 b 8 → c ≡ word32 b 12 → l ≡ word32 b 16 → n ≡ word32 b 20 → p ≡ word32 b 24 → f ≡ word32 b 28 → w ≡ word32 b 32 → o ≡ limit_in f w → k ≡ word32 b 36 → m ≡ word32 b 40 → u ≡ word32 b 44 → ◌≡◌ {A = BatchCoalescer} (record { target = record { 0 = t }; rows = record { 0 = r }; queue = q; columns = c; lists = l; numbers = n; pool = record { 0 = p }; limit = o; place = k; queued = m; buffered = record { 0 = u }; column = ds }) (state_in b)
 unfolding state_in
 state_is b e₀ e₁ e₂ e₃ e₄ e₅ e₆ e₇ e₈ e₉ g e₁₀ e₁₁ e₁₂ = rw (g, e₀, e₁, e₂, e₃, e₄, e₅, e₆, e₇, e₈, e₉, e₁₀, e₁₁, e₁₂)
+
+-- what a range's `all` returns of a test
+pub every_all : (p : ℕ → Bool) (n : ℕ) (r : Bool) → MatchBool r (AllWithin (λ c. p c ≡ true) (range_with_len 0 n) 0 (length (range_with_len 0 n))) ((k : ℕ) × (k < length (range_with_len 0 n)) × HoldsAt (λ c. p c ≡ false) (range_with_len 0 n) k) → r ≡ every p n
+every_all p n true h =
+    sym (every_is p n (λ i l. rw (get_or-range_with_len 0 n i 0 l, zero-add i) at (h i 0 (omega arith) (rw (length-range_with_len 0 n) l))))
+every_all p n false (k, l, h) =
+    let m : k < n = rw (length-range_with_len 0 n) at l in
+    all_fails p n k m (rw (get_or-range_with_len 0 n k 0 m, zero-add k) at (h 0))
 
 -- every flag: the limit's, and each column's
 module _ (b : List ℕ) where
@@ -84,27 +106,18 @@ module _ (b : List ℕ) where
   unfolding is_column_coded
   flags_column c p q r = r ∙ rw (p, q)
 
-  pub flags_more : (c : ℕ) {f w : ℕ} {r : Bool} → All (is_column_coded b) c → f ≡ word32 b (column_place c + 8) → w ≡ word32 b (column_place c + 12) → r ≡ is_flagged f w → r ≡ true → All (is_column_coded b) (c + 1)
-  flags_more c a p q r t = all_more a (sym (flags_column c p q r) ∙ t)
-
   limit_true : {f w : ℕ} {r : Bool} → f ≡ word32 b 28 → w ≡ word32 b 32 → r ≡ is_flagged f w → r ≡ is_flagged (word32 b 28) (word32 b 32)
   limit_true p q r = r ∙ rw (p, q)
 
-  pub coded-all : {f w : ℕ} {r : Bool} (c : ℕ) → f ≡ word32 b 28 → w ≡ word32 b 32 → r ≡ is_flagged f w → r ≡ true → All (is_column_coded b) c → 16 ≤ c → true ≡ is_coded b
+  pub coded_columns : {f w : ℕ} {r u : Bool} → f ≡ word32 b 28 → w ≡ word32 b 32 → r ≡ is_flagged f w → r ≡ true → u ≡ every (is_column_coded b) 16 → u ≡ is_coded b
   unfolding is_coded
-  coded-all c p q r t a n =
-      let e : is_flagged (word32 b 28) (word32 b 32) ≡ true = sym (limit_true p q r) ∙ t in
-      all_done 16 a n ∙ both_rest (every (is_column_coded b) 16) e
+  coded_columns p q r t e =
+      let k : is_flagged (word32 b 28) (word32 b 32) ≡ true = sym (limit_true p q r) ∙ t in
+      e ∙ both_rest (every (is_column_coded b) 16) k
 
   pub coded_not_limit : {f w : ℕ} {r : Bool} → f ≡ word32 b 28 → w ≡ word32 b 32 → r ≡ is_flagged f w → r ≡ false → false ≡ is_coded b
   unfolding is_coded
   coded_not_limit p q r t = both_fails (every (is_column_coded b) 16) (sym (limit_true p q r) ∙ t)
-
-  pub coded_not_column : {f w f' w' : ℕ} {r r' : Bool} (c : ℕ) → f ≡ word32 b 28 → w ≡ word32 b 32 → r ≡ is_flagged f w → r ≡ true → c < 16 → f' ≡ word32 b (column_place c + 8) → w' ≡ word32 b (column_place c + 12) → r' ≡ is_flagged f' w' → r' ≡ false → false ≡ is_coded b
-  unfolding is_coded
-  coded_not_column c p q r t l p' q' r'' t' =
-      let e : is_flagged (word32 b 28) (word32 b 32) ≡ true = sym (limit_true p q r) ∙ t in
-      all_fails (is_column_coded b) 16 c l (sym (flags_column c p' q' r'') ∙ t') ∙ both_rest (every (is_column_coded b) 16) e
 
   -- the ways out of decode
   pub decoded_state : {r : Bool} {s : BatchCoalescer} → length b ≡ state_bytes → r ≡ is_coded b → r ≡ true → s ≡ state_in b → ◌≡◌ {A = Coded} (record { number = 0; state = s }) (decoded b)

@@ -3,12 +3,13 @@
 #![tactic(auto)]
 
 ghost use Rattle.std.specs.Prelude.{◌≡◌, ◌<◌, length};
-ghost use Rattle.codes.specs.Code.{state_bytes, limit_in, block_in, is_flagged, is_coded, column_in, columns_in, state_in, zero_state, decoded};
+ghost use Rattle.codes.specs.Code.{state_bytes, limit_in, block_in, is_flagged, is_column_coded, is_coded, column_in, columns_in, state_in, zero_state, decoded};
 
 use blocks::BufferSource;
 use codes::{Coded, STATE_BYTES};
 use counts::{BufferNumber, ByteCount, RowCount};
-use state::{BatchCoalescer, Column};
+use state::{BatchCoalescer, Column, Limit, OpenBlock};
+use std::array;
 
 // A limit from a flag and a number of rows.
 pub fn limit_of(set: u32, rows: u32) -> Option<RowCount>
@@ -38,25 +39,22 @@ fn is_flagged(flag: u32, word: u32) -> bool
     if flag == 0 { word == 0 } else { flag == 1 }
 }
 
+// Whether the flag of column c is one.
+fn is_column_coded(bytes: &[u8], c: usize) -> bool
+    requires { (length bytes.now ≡ state_bytes) × (c < 16) }
+    ensures { result ≡ is_column_coded bytes.now c }
+{
+    let at = 48 + 16 * c;
+    is_flagged(words::get32(bytes, at + 8), words::get32(bytes, at + 12))
+}
+
 // Whether every flag is one.
 fn is_coded(bytes: &[u8]) -> bool
     requires { length bytes.now ≡ state_bytes }
     ensures { result ≡ is_coded bytes.now }
 {
-    if is_flagged(words::get32(bytes, 28), words::get32(bytes, 32)) {
-        let mut c: usize = 0;
-        while c < 16 {
-            let at = 48 + 16 * c;
-            if is_flagged(words::get32(bytes, at + 8), words::get32(bytes, at + 12)) {
-                c += 1;
-            } else {
-                return false;
-            }
-        }
-        true
-    } else {
-        false
-    }
+    is_flagged(words::get32(bytes, 28), words::get32(bytes, 32))
+        && (0..16).all(|c| is_column_coded(bytes, c))
 }
 
 // Column c of coded bytes.
@@ -83,20 +81,7 @@ fn columns_of(bytes: &[u8]) -> [Column; 16]
     requires { length bytes.now ≡ state_bytes }
     ensures { result ≡ columns_in bytes.now 16 }
 {
-    let none = Column {
-        kind: 0,
-        source: BufferSource {
-            current: ByteCount(0),
-        },
-        block: None,
-    };
-    let mut column: [Column; 16] = [none; 16];
-    let mut c: usize = 0;
-    while c < 16 {
-        column[c] = column_at(bytes, c);
-        c += 1;
-    }
-    column
+    array::from_fn(|c| column_at(bytes, c))
 }
 
 // The state of zeros, of bytes that are not 304.

@@ -1,27 +1,19 @@
 // The state as bytes: docs/LAYOUT.md, "State". Every function writes words behind what stands already.
 #![tactic(auto)]
 
-ghost use Rattle.std.specs.Prelude.{◌≡◌, ◌+◌, ◌≤◌, [], ◌∷◌, ◌++◌, length, take};
+ghost use Rattle.std.specs.Prelude.{◌≡◌, ◌+◌, ◌*◌, ◌≤◌, ◌++◌, length, take};
 ghost use Rattle.codes.specs.Code.{state_bytes, columns_at, bytes_of, limit_words, block_words, column_words, columns_words, set_up_words, count_words, code_of, limited, Words};
 
 use state::{BatchCoalescer, Column};
 
-// The words a and b at `at`: each of the functions below writes behind what stands already, from word 0 on.
-pub fn put_two(bytes: &mut [u8], at: usize, a: u32, b: u32)
-    requires { at + 8 ≤ length bytes.old }
-    ensures { take (at + 8) bytes.new ≡ take at bytes.old ++ bytes_of (a ∷ b ∷ []) }
+// Words at `at`: each of the functions below writes behind what stands already, from word 0 on.
+pub fn put_words<const N: usize>(bytes: &mut [u8], at: usize, ws: [u32; N])
+    requires { at + 4 * N ≤ length bytes.old }
+    ensures { take (at + 4 * N) bytes.new ≡ take at bytes.old ++ bytes_of ws.entry }
 {
-    words::put32(bytes, at, a);
-    words::put32(bytes, at + 4, b);
-}
-
-pub fn put_three(bytes: &mut [u8], at: usize, a: u32, b: u32, c: u32)
-    requires { at + 12 ≤ length bytes.old }
-    ensures { take (at + 12) bytes.new ≡ take at bytes.old ++ bytes_of (a ∷ b ∷ c ∷ []) }
-{
-    words::put32(bytes, at, a);
-    words::put32(bytes, at + 4, b);
-    words::put32(bytes, at + 8, c);
+    for (i, w) in ws.iter().enumerate() {
+        words::put32(bytes, at + 4 * i, *w);
+    }
 }
 
 // What set-up fixed.
@@ -29,9 +21,13 @@ fn put_set_up(bytes: &mut [u8], s: BatchCoalescer)
     requires { length bytes.old ≡ state_bytes }
     ensures { take 28 bytes.new ≡ bytes_of (set_up_words s) }
 {
-    put_two(bytes, 0, s.target.0, s.rows.0);
-    put_two(bytes, 8, s.queue, s.columns);
-    put_three(bytes, 16, s.lists, s.numbers, s.pool.0);
+    put_words(
+        bytes,
+        0,
+        [
+            s.target.0, s.rows.0, s.queue, s.columns, s.lists, s.numbers, s.pool.0,
+        ],
+    );
 }
 
 // The limit's two words, and nothing else changed; so they stand behind what stood before them.
@@ -56,7 +52,7 @@ fn put_counts(bytes: &mut [u8], s: BatchCoalescer)
     requires { length bytes.old ≡ state_bytes }
     ensures { take columns_at bytes.new ≡ take 36 bytes.old ++ bytes_of (count_words s) }
 {
-    put_three(bytes, 36, s.place, s.queued, s.buffered.0);
+    put_words(bytes, 36, [s.place, s.queued, s.buffered.0]);
 }
 
 fn put_block(bytes: &mut [u8], at: usize, block: Option<BufferNumber>)
@@ -64,11 +60,11 @@ fn put_block(bytes: &mut [u8], at: usize, block: Option<BufferNumber>)
     ensures { take (at + 8) bytes.new ≡ take at bytes.old ++ bytes_of (block_words block) }
 {
     match block {
-        Some(k) => {
-            put_two(bytes, at, 1, k.0);
+        OpenBlock::Number(k) => {
+            put_words(bytes, at, [1, k.0]);
         }
-        None => {
-            put_two(bytes, at, 0, 0);
+        OpenBlock::Closed => {
+            put_words(bytes, at, [0, 0]);
         }
     }
 }
@@ -78,7 +74,7 @@ fn put_column(bytes: &mut [u8], at: usize, column: Column)
     ensures { take (at + 16) bytes.new ≡ take at bytes.old ++ bytes_of (column_words column) }
 {
     let block = column.block;
-    put_two(bytes, at, column.kind, column.source.current.0);
+    put_words(bytes, at, [column.kind, column.source.current.0]);
     put_block(bytes, at + 8, block);
 }
 
@@ -86,10 +82,8 @@ fn put_columns(bytes: &mut [u8], s: BatchCoalescer)
     requires { length bytes.old ≡ state_bytes }
     ensures { bytes.new ≡ take columns_at bytes.old ++ bytes_of (columns_words s 16) }
 {
-    let mut c: usize = 0;
-    while c < 16 {
-        put_column(bytes, 48 + 16 * c, s.column[c]);
-        c += 1;
+    for (c, column) in s.column.iter().enumerate() {
+        put_column(bytes, 48 + 16 * c, *column);
     }
 }
 

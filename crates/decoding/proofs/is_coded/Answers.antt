@@ -1,21 +1,17 @@
 -- `decoding::is_coded` meets its contract.
-use Prim.Native.Nat.{◌-◌}
-use borrow.Author.Rules.{rules}
-use Rattle.search.specs.Every.{all_none}
-use Rattle.decoding.specs.ReadLaws.{flags_more, coded-all, coded_not_limit, coded_not_column}
+use Rattle.std.proofs.Common.{◌≡◌, arith, rules, tests, true, false}
+use Rattle.std.proofs.lemmas.Iterator.{cases_from_all, YieldsList-from_range}
+use Rattle.codes.specs.Code.{is_column_coded}
+use Rattle.decoding.specs.ReadLaws.{every_all, coded_columns, coded_not_limit}
 use Rattle.decoding.proofs.is_coded.Goals as goal
 
-pub loop-c-init : goal.loop-c-init
-loop-c-init c = (search rules, all_none _)
-
-pub loop-c-preserved : goal.loop-c-preserved
-loop-c-preserved c = search (flags_more, rules)
-
-pub returns-else-is_flagged-2 : goal.returns-else-is_flagged-2
-returns-else-is_flagged-2 c = search (coded_not_column, rules)
-
-pub returns-after-loop-c : goal.returns-after-loop-c
-returns-after-loop-c c = search (coded-all, rules)
+pub returns-then-is_flagged : goal.returns-then-is_flagged
+returns-then-is_flagged c =
+    let p = is_column_coded c.args.bytes.now in
+    let k = every_all p 16 c.all.result
+    (cases_from_all _ _ _ (λ i. p i ≡ true) (λ i. p i ≡ false) c.all.ensures.ran (YieldsList-from_range 0 16 16 (cc) (omega arith))
+    (λ i q k. search (rules, tests)) (λ i q k. search (rules, tests))) in
+    search (coded_columns, k, rules)
 
 pub returns-else-is_flagged : goal.returns-else-is_flagged
 returns-else-is_flagged c = search (coded_not_limit, rules)

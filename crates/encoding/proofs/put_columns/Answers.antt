@@ -1,5 +1,4 @@
 -- `encoding::put_columns` meets its contract.
-use Prim.Native.Nat.{◌-◌}
 use borrow.Author.Rules.{rules}
 use Rattle.codes.specs.PutLaws.{columns_put_none, columns_put_more, columns_put_all}
 use Rattle.encoding.proofs.put_columns.Goals as goal

@@ -1,5 +1,5 @@
--- `encoding::put_columns` meets its contract: what its loops keep.
-use Prim.Native.Nat.{◌+◌, ◌*◌, ◌-◌, ◌≤◌}
+-- `encoding::put_columns` meets its contract: what its loop keeps.
+use Prim.Native.Nat.{◌+◌, ◌*◌}
 use mathlib.Core.List.{◌++◌}
 use mathlib.Core.Path.{◌≡◌}
 use lib.ListN.{length, take}
@@ -7,7 +7,4 @@ use Rattle.codes.specs.Code.{columns_words, bytes_of}
 use Rattle.encoding.proofs.put_columns.Given as goal
 
 abbrev pub invariant-loop-c : goal.invariant-loop-c
-invariant-loop-c l = (l.c ≤ 16) × (length l.bytes ≡ length l.initial.bytes) × (take (48 + 16 * l.c) l.bytes ≡ take 48 l.initial.bytes ++ bytes_of (columns_words l.s l.c))
-
-abbrev pub decreases-loop-c : goal.decreases-loop-c
-decreases-loop-c l = 16 - l.c
+invariant-loop-c l = (l.column-items ≡ l.fn.s.column) × (length l.bytes ≡ length l.initial.bytes) × (take (48 + 16 * l.c) l.bytes ≡ take 48 l.initial.bytes ++ bytes_of (columns_words l.fn.s l.c))

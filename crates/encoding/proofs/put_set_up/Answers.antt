@@ -1,7 +1,8 @@
 -- `encoding::put_set_up` meets its contract.
 use borrow.Author.Rules.{rules}
-use Rattle.codes.specs.PutLaws.{set_up_put}
+use Rattle.codes.specs.Code.{set_up_words}
 use Rattle.encoding.proofs.put_set_up.Goals as goal
 
 pub returns : goal.returns
-returns c = search (set_up_put, rules)
+unfolding set_up_words
+returns c = search rules
