@@ -1,6 +1,6 @@
 -- Faults, as the functions hand them on.
 use Rattle.std.specs.Prelude.{ℕ, Bool, List, [], Option, Some, None, Result, Ok, Err}
-use Rattle.std.proofs.Math.Option.{Option as First, none, some}
+use Rattle.std.specs.Prelude.{Option as First, None, Some}
 use Rattle.state.specs.declared.BatchCoalescer.{BatchCoalescer}
 use Rattle.state.specs.World.{world}
 use Rattle.rules.specs.declared.Fault.{Fault}
@@ -13,8 +13,8 @@ fault_at number column row = record { number = number; column = column; row = ro
 
 -- the first fault, as the code answers it: a refusal
 abbrev pub refused_by : First Fault → Result (Unit {0}) Fault
-refused_by none = Ok tt
-refused_by (some f) = Err f
+refused_by None = Ok tt
+refused_by (Some f) = Err f
 
 -- 7: the refusal by the first bad row
 abbrev pub row_refused : ℕ → Option ℕ → Result (Unit {0}) Fault

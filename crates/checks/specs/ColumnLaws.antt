@@ -2,7 +2,7 @@
 use Rattle.std.specs.Prelude.{ℕ, ◌*◌, ◌≡◌, refl, Bool, true, false, List, [], length, Result, Ok, Err}
 use Rattle.std.proofs.Math.Path.{sym}
 use Rattle.std.proofs.Common.{◌∙◌, ap}
-use Rattle.std.proofs.Math.Option.{Option, none, some}
+use Rattle.std.specs.Prelude.{Option, None, Some}
 use Rattle.search.specs.First.{first}
 use Rattle.kinds.specs.Kind.{is_view, width_at}
 use Rattle.state.specs.declared.BatchCoalescer.{BatchCoalescer}
@@ -32,8 +32,8 @@ module _ (s : BatchCoalescer) (pool books records body : List ℕ) (rows c : ℕ
   bad_row_is e = simp (e, views_width s c e)
 
 row_fault_is : (c : ℕ) (o : Option ℕ) → refused_by (row_fault c o) ≡ row_refused c (found o)
-row_fault_is c none = refl
-row_fault_is c (some i) = refl
+row_fault_is c None = refl
+row_fault_is c (Some i) = refl
 
 -- ---- a column
 

@@ -1,6 +1,6 @@
 -- What the checks ask of books and pool, and the parts of the checks of a column that stand in functions of their own.
 use Rattle.std.specs.Prelude.{ℕ, ◌+◌, ◌*◌, ◌≤◌, ◌<◌, ◌≡◌, Bool, not, true, cond, ◌&&◌, List, length, eqb, Option, Some, None}
-use Rattle.std.proofs.Math.Option.{Option as Lowest, none, some}
+use Rattle.std.specs.Prelude.{Option as Lowest, None, Some}
 use Rattle.search.specs.First.{first}
 use Rattle.books.specs.Entry.{used_of, entry_of}
 use Rattle.pool.specs.Register.{is_held}
@@ -35,8 +35,8 @@ bad_at books pool body r i =
 
 -- the lowest number, as the code answers it
 abbrev pub found : Lowest ℕ → Option ℕ
-found none = None
-found (some i) = Some i
+found None = None
+found (Some i) = Some i
 
 -- 7: the first of the rows whose view is not valid
 unfoldable pub bad_in : List ℕ → List ℕ → List ℕ → ColumnRecord → ℕ → Option ℕ

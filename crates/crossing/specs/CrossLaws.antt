@@ -6,7 +6,6 @@ use Rattle.std.proofs.lemmas.List.{take-append-le}
 use Rattle.counts.specs.declared.BufferNumber.{BufferNumber}
 use Rattle.counts.specs.declared.RowCount.{RowCount}
 use Rattle.pool.specs.Register.{refusal_of}
-use Rattle.state.specs.declared.Limit.{Limit}
 use Rattle.words.specs.Word.{word32}
 use Rattle.words.specs.Run.{read, put, lay}
 use Rattle.words.specs.RunLaws.{lay-put}

@@ -14,8 +14,6 @@ use Rattle.search.specs.Cases.{both_fails, both_rest}
 use Rattle.words.specs.Word.{word32}
 use Rattle.state.specs.declared.BatchCoalescer.{BatchCoalescer}
 use Rattle.state.specs.declared.Column.{Column}
-use Rattle.state.specs.declared.Limit.{Limit}
-use Rattle.state.specs.declared.OpenBlock.{OpenBlock}
 use Rattle.state.specs.World.{no_column}
 use Rattle.codes.specs.declared.Coded.{Coded}
 use Rattle.codes.specs.TakeLaws.{length-columns_in, get_d_columns_in}

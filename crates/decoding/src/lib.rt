@@ -8,7 +8,7 @@ ghost use Rattle.codes.specs.Code.{state_bytes, limit_in, block_in, is_flagged, 
 use blocks::BufferSource;
 use codes::{Coded, STATE_BYTES};
 use counts::{BufferNumber, ByteCount, RowCount};
-use state::{BatchCoalescer, Column, Limit, OpenBlock};
+use state::{BatchCoalescer, Column};
 use std::array;
 
 // A limit from a flag and a number of rows.

@@ -60,10 +60,10 @@ fn put_block(bytes: &mut [u8], at: usize, block: Option<BufferNumber>)
     ensures { take (at + 8) bytes.new ≡ take at bytes.old ++ bytes_of (block_words block) }
 {
     match block {
-        OpenBlock::Number(k) => {
+        Some(k) => {
             put_words(bytes, at, [1, k.0]);
         }
-        OpenBlock::Closed => {
+        None => {
             put_words(bytes, at, [0, 0]);
         }
     }
