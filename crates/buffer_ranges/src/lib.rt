@@ -8,12 +8,11 @@ use books::Entry;
 use counts::{BufferNumber, ByteSum};
 
 // Whether the entry is in the ranges of 14: within the pool, no longer than its capacity, held or not.
+#[tactic(auto, unfolding(pool::specs::Read::fits_in))]
 fn fits_in(e: Entry, pool: ByteSum) -> bool
     ensures { result ≡ fits_in pool.0 e }
 {
-    (e.start as u64) + (e.capacity.0 as u64) <= pool.0
-        && e.length.0 <= e.capacity.0
-        && e.hold <= 1
+    (e.start as u64) + (e.capacity.0 as u64) <= pool.0 && e.length.0 <= e.capacity.0 && e.hold <= 1
 }
 
 // 14's part about buffers: whether every buffer in use is in range, and no more numbers are in use than there are.

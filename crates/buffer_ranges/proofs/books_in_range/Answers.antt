@@ -1,5 +1,4 @@
 -- `buffer_ranges::books_in_range` meets its contract.
-use Prim.Native.Nat.{◌-◌}
 use borrow.Author.Rules.{rules}
 use Rattle.pool.specs.ReadLaws.{range_none, range_more, range_room, range_over, range_fails, range_done}
 use Rattle.buffer_ranges.proofs.books_in_range.Goals as goal
@@ -16,8 +15,8 @@ entry_at-requires c = search (range_room, rules)
 pub loop-i-preserved : goal.loop-i-preserved
 loop-i-preserved c = search (range_more, rules)
 
-pub returns-else-fits_in : goal.returns-else-fits_in
-returns-else-fits_in c = search (range_fails, rules)
+pub returns-then-not-fits_in : goal.returns-then-not-fits_in
+returns-then-not-fits_in c = search (range_fails, rules)
 
 pub returns : goal.returns
 returns c = search (range_done, rules)

@@ -1,5 +1,4 @@
 -- `gaps::lowest_free` meets its contract.
-use Prim.Native.Nat.{◌-◌}
 use borrow.Author.Rules.{rules}
 use Rattle.books.specs.SearchLaws.{used_room', free-none, free_more, free_here, free-next, free-nothing}
 use Rattle.gaps.proofs.lowest_free.Goals as goal

@@ -1,5 +1,4 @@
 -- `gaps::lowest_gap` meets its contract.
-use Prim.Native.Nat.{◌-◌}
 use borrow.Author.Rules.{rules}
 use Rattle.books.specs.GapLaws.{gap_none, gap_past, gap_here, gap_turn, gap_less}
 use Rattle.search.specs.FirstLaws.{passed_none}

@@ -1,5 +1,4 @@
 -- `gaps::sweep` meets its contract.
-use Prim.Native.Nat.{◌-◌}
 use borrow.Author.Rules.{rules}
 use Rattle.books.specs.GapLaws.{swept_none, swept-more, swept_all, past_bound}
 use Rattle.books.specs.SearchLaws.{used_room}

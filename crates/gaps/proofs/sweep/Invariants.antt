@@ -1,11 +1,8 @@
--- `gaps::sweep` meets its contract: what its loops keep.
-use Prim.Native.Nat.{◌≤◌, ◌<◌, ◌-◌, ◌^◌}
+-- `gaps::sweep` meets its contract: what its loop keeps.
+use Prim.Native.Nat.{◌<◌, ◌^◌}
 use mathlib.Core.Path.{◌≡◌}
 use Rattle.books.specs.Search.{swept}
 use Rattle.gaps.proofs.sweep.Given as goal
 
 abbrev pub invariant-loop-i : goal.invariant-loop-i
-invariant-loop-i l = (l.i ≤ l.used) × (l.used < 2 ^ 32) × (l.next < 2 ^ 33) × (l.next ≡ swept l.books l.size.0 l.at l.i)
-
-abbrev pub decreases-loop-i : goal.decreases-loop-i
-decreases-loop-i l = l.used - l.i
+invariant-loop-i l = (l.next < 2 ^ 33) × (l.next ≡ swept l.books l.size.0 l.at l.i)
