@@ -1,7 +1,6 @@
 -- Set-up: what is asked for, as the rules have it; and the contract.
-use Rattle.std.specs.Prelude.{ℕ, zero, suc, ◌≡◌, cond, List, [], ◌∷◌, get_or, set, ltb}
+use Rattle.std.specs.Prelude.{ℕ, zero, suc, ◌≡◌, cond, List, [], ◌∷◌, get_or, ltb}
 use Rattle.rules.specs.declared.Step.{Step}
-use Rattle.state.specs.declared.Column.{Column}
 use Rattle.rules.specs.Calls.{Answered, of_kind}
 use Rattle.rules.specs.Calls as calls
 use Rattle.set_up.specs.declared.Wanted.{Wanted}
@@ -25,13 +24,9 @@ wanted_of w =
       pool = w.pool.0;
     }
 
--- the kind of column c, and 0 past the last; the first c columns put into an array
+-- the kind of column c, and 0 past the last
 unfoldable pub kind_at : ℕ → List ℕ → ℕ → ℕ
 kind_at columns kinds c = cond (ltb c columns) (get_or kinds c 0) 0
-
-unfoldable pub kinds_put : ℕ → List ℕ → List Column → ℕ → List Column
-kinds_put columns kinds l zero = l
-kinds_put columns kinds l (suc c) = set (kinds_put columns kinds l c) c (of_kind (kind_at columns kinds c))
 
 -- the contract: number, state and books are the call's. Slots and pool are not lent to be changed
 pub record SetsUp (a : Answered) (books' : List ℕ) (r : Step) : Type 0 where

@@ -1,12 +1,12 @@
 -- Set-up: the turns of its loops, and a law for each exit.
 use Prim.Native.Nat.{ℕ, zero, suc, ◌+◌, ◌≤◌, ◌<◌}
-use Rattle.std.specs.Prelude.{◌≡◌, Bool, true, false, List, [], ◌∷◌, ◌++◌, length, set, drop, replicate}
+use Rattle.std.specs.Prelude.{◌≡◌, Bool, true, false, List, [], ◌∷◌, length, replicate}
 use Rattle.std.proofs.Math.Path.{refl}
-use Rattle.std.proofs.Common.{sym, ◌∙◌, ap, append-nil, arith, add-one, le_of_suc-le-suc, drop_of_length-le, ext_get_or, get_or-set_same, lt-ltb, le-ltb}
+use Rattle.std.proofs.Common.{sym, ◌∙◌, ap, subst, arith, le_of_suc-le-suc, ext_get_or, lt-ltb, le-ltb}
 use Rattle.std.proofs.Math.Decide.{dec_lt, ℕ_discrete}
-use Rattle.std.proofs.Math.ListN.{get_or, length-set, get_or-eq_default}
-use Rattle.std.proofs.Math.Seq.{get_or-set_other}
-use Rattle.std.proofs.lemmas.List.Edits.{fill_none, fill_more}
+use Rattle.std.proofs.Math.ListN.{get_or, get_or-eq_default}
+use Rattle.std.specs.Array.{IsFromFnResultFrom}
+use denote.Param.Members.{Mut, Called}
 use Rattle.state.specs.declared.BatchCoalescer.{BatchCoalescer}
 use Rattle.state.specs.declared.Column.{Column}
 use Rattle.blocks.specs.declared.BufferSource.{BufferSource}
@@ -16,8 +16,7 @@ use Rattle.ranges.specs.Tested.{fits_lengths}
 use Rattle.rules.specs.Calls.{of_kind, columns_for, new_state, no_state, set_up_call}
 use Rattle.rules.proofs.CallLaws.{set_up_done, set_up_not}
 use Rattle.set_up.specs.declared.Wanted.{Wanted}
-use Rattle.set_up.specs.SetUp.{padded, wanted_of, kind_at, kinds_put, SetsUp}
-use Rattle.std.specs.Prelude.{None}
+use Rattle.set_up.specs.SetUp.{padded, wanted_of, kind_at, SetsUp}
 
 -- ---- kinds
 
@@ -75,38 +74,20 @@ columns_at_lem [] (suc n) (suc i) h = columns_at_lem [] n i (le_of_suc-le-suc h)
 columns_at_lem (x ∷ l) (suc n) zero h = refl
 columns_at_lem (x ∷ l) (suc n) (suc i) h = columns_at_lem l n i (le_of_suc-le-suc h)
 
-module _ (columns : ℕ) (kinds : List ℕ) where
-  length-put : (l : List Column) (n : ℕ) → length (kinds_put columns kinds l n) ≡ length l
-  unfolding kinds_put
-  length-put l zero = refl
-  length-put l (suc n) = length-set (kinds_put columns kinds l n) n (of_kind (kind_at columns kinds n)) ∙ length-put l n
+-- elements made by calls of a function of the index, which stays as it is
+pub made_each : {F B : Type 0} {g : Mut F (ℕ × Unit {0}) B} {f : F} (ys : List B) (i n : ℕ) → IsFromFnResultFrom g f ys i n → (v : ℕ → B) → ((i : ℕ) (y : B) (q : F) → Called g f (i, tt) y q → (q ≡ f) × (y ≡ v i)) → (j : ℕ) → i ≤ j → j < i + n → (e : B) → get_or ys j e ≡ v j
+made_each ys i zero x v k j l h e = absurd (omega arith)
+made_each {F} {B} {g} {f} ys i (suc n) (q, y, a, c, x) v k j l h e = go (ℕ_discrete j i) (λ m o. made_each ys (i + 1) n (subst (λ r. IsFromFnResultFrom g r ys (i + 1) n) (k i y q c).0 x) v k j m o e)
+  where
+    go : Dec (j ≡ i) → (i + 1 ≤ j → j < i + 1 + n → get_or ys j e ≡ v j) → get_or ys j e ≡ v j
+    go (yes z) rest = rw z (a.1 e ∙ (k i y q c).1)
+    go (no z) rest = rest (omega arith) (omega arith)
 
-  put-at : (l : List Column) (n i : ℕ) → n ≤ length l → i < n → get_or (kinds_put columns kinds l n) i (of_kind 0) ≡ of_kind (kind_at columns kinds i)
-  unfolding kinds_put
-  put-at l zero i m h = absurd (omega arith)
-  put-at l (suc n) i m h = go (ℕ_discrete i n) (λ j. put-at l n i (omega arith) j)
-    where
-      go : Dec (i ≡ n) → (i < n → get_or (kinds_put columns kinds l n) i (of_kind 0) ≡ of_kind (kind_at columns kinds i)) → get_or (set (kinds_put columns kinds l n) n (of_kind (kind_at columns kinds n))) i (of_kind 0) ≡ of_kind (kind_at columns kinds i)
-      go (yes e) before = rw e (get_or-set_same (kinds_put columns kinds l n) n (of_kind (kind_at columns kinds n)) (of_kind 0) (omega (arith, length-put l n)))
-      go (no e) before = get_or-set_other (kinds_put columns kinds l n) n i (of_kind (kind_at columns kinds n)) (of_kind 0) e ∙ before (omega arith)
-
-  pub columns_none : {t : List Column} → t ≡ replicate 16 (of_kind 0) → t ≡ kinds_put columns kinds (replicate 16 (of_kind 0)) 0
-  unfolding kinds_put
-  columns_none e = e
-
-  pub columns_more : (l : List Column) (c : ℕ) {t : List Column} {k : ℕ} {x : Column} → t ≡ kinds_put columns kinds l c → k ≡ kind_at columns kinds c → x ≡ of_kind k → set t c x ≡ kinds_put columns kinds l (c + 1)
-  unfolding kinds_put
-  columns_more l c p q r = rw (add-one, p, r, q)
-
-  pub columns_all : {t : List Column} (c : ℕ) → t ≡ kinds_put columns kinds (replicate 16 (of_kind 0)) c → c ≤ 16 → 16 ≤ c → t ≡ columns_for (padded columns kinds) 16
-  columns_all {t} c p a b =
-      let e : c ≡ 16 = omega arith in
-      p ∙ ap (kinds_put columns kinds (replicate 16 (of_kind 0))) e
-      ∙ ext_get_or (of_kind 0) _ _ (length-put (replicate 16 (of_kind 0)) 16 ∙ sym (length_columns (padded columns kinds) 16))
-      (λ i h.
-      put-at (replicate 16 (of_kind 0)) 16 i (omega arith) (rw (length-put (replicate 16 (of_kind 0)) 16) at h)
-      ∙ ap of_kind (sym (padded-at columns kinds i))
-      ∙ sym (columns_at_lem (padded columns kinds) 16 i (rw (length-put (replicate 16 (of_kind 0)) 16) at h)))
+-- an array of 16 whose elements are fresh columns of the kinds
+pub columns_all : (columns : ℕ) (kinds : List ℕ) {t : List Column} → length t ≡ 16 → ((i : ℕ) → i < 16 → get_or t i (of_kind 0) ≡ of_kind (kind_at columns kinds i)) → t ≡ columns_for (padded columns kinds) 16
+columns_all columns kinds {t} long each =
+    ext_get_or (of_kind 0) _ _ (long ∙ sym (length_columns (padded columns kinds) 16))
+    (λ i h. each i (omega (arith, long)) ∙ ap of_kind (sym (padded-at columns kinds i)) ∙ sym (columns_at_lem (padded columns kinds) 16 i (omega (arith, long))))
 
 -- ---- states
 
@@ -117,19 +98,6 @@ state_new w e = rw (e, length-padded w.columns w.kinds)
 pub state_none : {column : List Column} → column ≡ replicate 16 (of_kind 0) → record { target = record { 0 = 0 }; rows = record { 0 = 0 }; queue = 0; columns = 0; lists = 0; numbers = 0; pool = record { 0 = 0 }; limit = None; place = 0; queued = 0; buffered = record { 0 = 0 }; column = column } ≡ no_state
 unfolding new_state columns_for
 state_none e = rw e
-
--- ---- the books emptied
-
-pub clear_none : (s : List ℕ) → s ≡ replicate 0 0 ++ drop 0 s
-clear_none s = fill_none s 0
-
-pub clear_more : (s : List ℕ) {t : List ℕ} (i : ℕ) → t ≡ replicate i 0 ++ drop i s → i < length t → length t ≡ length s → set t i 0 ≡ replicate (i + 1) 0 ++ drop (i + 1) s
-clear_more s i p h e = rw p (fill_more i 0 s (omega arith))
-
-pub clear_all : (s : List ℕ) {t : List ℕ} (i : ℕ) → t ≡ replicate i 0 ++ drop i s → length t ≡ length s → i ≤ length s → length t ≤ i → t ≡ replicate (length s) 0
-clear_all s i p e a b =
-    let q : i ≡ length s = omega arith in
-    p ∙ ap (λ (k : ℕ). replicate k 0 ++ drop k s) q ∙ rw (drop_of_length-le s {i = length s} (omega arith), append-nil)
 
 -- ---- the exits
 

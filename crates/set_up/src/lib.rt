@@ -54,13 +54,7 @@ fn kind_at(columns: u32, kinds: [u32; 16], c: usize) -> u32
 fn fresh_columns(columns: u32, kinds: [u32; 16]) -> [Column; 16]
     ensures { result ≡ columns_for (padded columns kinds) 16 }
 {
-    let mut t = no_columns();
-    let mut c: usize = 0;
-    while c < 16 {
-        t[c] = fresh_column(kind_at(columns, kinds, c));
-        c += 1;
-    }
-    t
+    std::array::from_fn(|c| fresh_column(kind_at(columns, kinds, c)))
 }
 
 // The state that set-up makes.
@@ -70,14 +64,14 @@ fn fresh_state(w: Wanted) -> BatchCoalescer
     let kinds = w.kinds;
     let column = fresh_columns(w.columns, kinds);
     BatchCoalescer {
-        target: RowCount(w.target.0),
-        rows: RowCount(w.rows.0),
+        target: w.target,
+        rows: w.rows,
         queue: w.queue,
         columns: w.columns,
         lists: w.lists,
         numbers: w.numbers,
-        pool: ByteCount(w.pool.0),
-        limit: None,
+        pool: w.pool,
+        limit: Limit::Unset,
         place: 0,
         queued: 0,
         buffered: RowCount(0),
@@ -106,23 +100,13 @@ fn no_state() -> BatchCoalescer
     }
 }
 
-fn clear(books: &mut [u8])
-    ensures { books.new ≡ replicate (length books.old) 0 }
-{
-    let mut i: usize = 0;
-    while i < books.len() {
-        books[i] = 0;
-        i += 1;
-    }
-}
-
 // new: set-up. Empties the books; changes no slot and no pool byte. 1.
 pub fn new_coalescer(w: Wanted, slots: &[u8], pool: &[u8], books: &mut [u8]) -> Step
     ensures { SetsUp (set_up_call (wanted_of w) slots.now pool.now books.old) books.new result }
 {
     let s = fresh_state(w);
     if ranges::fits_set_up(s, slots.len(), pool.len(), books.len()) {
-        clear(books);
+        books.fill(0);
         Step {
             state: s,
             number: 0,

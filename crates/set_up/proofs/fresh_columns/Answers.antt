@@ -1,14 +1,11 @@
 -- `set_up::fresh_columns` meets its contract.
-use Prim.Native.Nat.{◌-◌}
-use borrow.Author.Rules.{rules}
-use Rattle.set_up.specs.SetUpLaws.{columns_none, columns_more, columns_all}
+use Rattle.std.proofs.Common.{rules, arith}
+use Rattle.rules.specs.Calls.{of_kind}
+use Rattle.set_up.specs.SetUp.{kind_at}
+use Rattle.set_up.specs.SetUpLaws.{columns_all, made_each}
 use Rattle.set_up.proofs.fresh_columns.Goals as goal
 
-pub loop-c-init : goal.loop-c-init
-loop-c-init c = search (columns_none, rules)
-
-pub loop-c-preserved : goal.loop-c-preserved
-loop-c-preserved c = search (columns_more, rules)
-
 pub returns : goal.returns
-returns c = search (columns_all, rules)
+returns c =
+    columns_all c.args.columns c.args.kinds c.from_fn.ensures.items.long
+    (λ i h. made_each _ 0 16 c.from_fn.ensures.items.each (λ k. of_kind (kind_at c.args.columns c.args.kinds k)) (λ k y q z. search rules) i (omega arith) h (of_kind 0))
