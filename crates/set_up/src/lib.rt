@@ -71,7 +71,7 @@ fn fresh_state(w: Wanted) -> BatchCoalescer
         lists: w.lists,
         numbers: w.numbers,
         pool: w.pool,
-        limit: Limit::Unset,
+        limit: None,
         place: 0,
         queued: 0,
         buffered: RowCount(0),
