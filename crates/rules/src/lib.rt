@@ -7,6 +7,7 @@ use state::BatchCoalescer;
 // 01: "column records of 32 bytes with no header, eight little-endian u32 words".
 #[derive(Clone, Copy)]
 pub struct ColumnRecord {
+    // Kept: 01, "Where the Rust must change shape": "kinds as numbers"; a batch that is lent may have any.
     pub kind: u32,
     pub values: u32,
     pub validity: u32,

@@ -9,6 +9,7 @@ use counts::{BufferNumber, ByteCount, RowCount};
 // A column: its kind, the block size that it keeps across batches, and its open block.
 #[derive(Clone, Copy)]
 pub struct Column {
+    // Kept: 01, "Where the Rust must change shape": "kinds as numbers"; 02, K2 asks for a match on ranges of them.
     pub kind: u32,
     pub source: BufferSource,
     pub block: Option<BufferNumber>,
@@ -40,6 +41,7 @@ pub enum Place {
 }
 
 // What reading a row answers: null, a value and where it is, or the number of the refusal.
+// Kept: 01, "The forms we expect": "row answer enum whose value case carries a place enum".
 #[derive(Clone, Copy)]
 pub enum RowAnswer {
     Null,
