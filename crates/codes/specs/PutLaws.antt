@@ -1,4 +1,5 @@
 -- What the writing functions leave: each puts words behind those that stand already.
+use Rattle.std.specs.Prelude.{Option, Some, None}
 use Rattle.std.specs.Prelude.{ℕ, suc, ◌+◌, ◌*◌, ◌/◌, ◌%◌, ◌≤◌, ◌<◌, ◌≡◌, refl, List, [], ◌∷◌, ◌++◌, length, take, drop, get_or, set}
 use Rattle.std.proofs.Common.{sym, ◌∙◌, ap, append_assoc, append-nil, arith, length-set, take-suc-set, take_all, drop-set-lt}
 use Rattle.std.proofs.lemmas.List.{take_more}
@@ -10,7 +11,6 @@ use Rattle.counts.specs.declared.RowCount.{RowCount}
 use Rattle.counts.specs.declared.BufferNumber.{BufferNumber}
 use Rattle.state.specs.World.{no_column, column_of}
 use Rattle.codes.specs.Code.{
-use Rattle.std.specs.Prelude.{Option, Some, None}
   state_bytes,
   columns_at,
   bytes_of,

@@ -1,4 +1,7 @@
 -- The round trip: a state that is encoded is coded, and is the state that its bytes code.
+use Rattle.counts.specs.declared.BufferNumber.{BufferNumber}
+use Rattle.counts.specs.declared.RowCount.{RowCount}
+use Rattle.std.specs.Prelude.{Option, Some, None}
 use Rattle.std.specs.Prelude.{ℕ, zero, suc, ◌+◌, ◌*◌, ◌/◌, ◌%◌, ◌≤◌, ◌<◌, ◌^◌, ◌≡◌, refl, Bool, true, false, cond, List, [], ◌∷◌, ◌++◌, length, take, get_or, eqb}
 use Rattle.std.proofs.Common.{sym, ◌∙◌, arith, length-append, take-suc, take_all, get_or-append-add, eq-eqb}
 use Rattle.std.proofs.Math.Decide.{dec_lt}
@@ -11,9 +14,6 @@ use Rattle.state.specs.declared.BatchCoalescer.{BatchCoalescer}
 use Rattle.state.specs.World.{no_column, column_of}
 use Rattle.codes.specs.TakeLaws.{length-columns_in, get_d_columns_in}
 use Rattle.codes.specs.Code.{
-use Rattle.std.specs.Prelude.{Option, Some, None}
-use Rattle.counts.specs.declared.BufferNumber.{BufferNumber}
-use Rattle.counts.specs.declared.RowCount.{RowCount}
   state_bytes,
   bytes_of,
   limit_flag,

@@ -8,6 +8,7 @@ ghost use Rattle.rules.specs.Calls.{row_refusal};
 ghost use Rattle.codes.specs.Code.{state_bytes};
 ghost use Rattle.crossing.specs.Cross.{KeepsState, pair, number_in, limit_pair, place_words, row_bytes, kinds_to};
 
+use counts::{BufferNumber, RowCount};
 use state::{BatchCoalescer, Place, RowAnswer};
 
 // Two numbers as one: the refusal in the upper 32 bits, or 0, and the value in the lower.

@@ -1,4 +1,7 @@
 -- What the reading functions answer: a law for each way out.
+use Rattle.counts.specs.declared.BufferNumber.{BufferNumber}
+use Rattle.counts.specs.declared.RowCount.{RowCount}
+use Rattle.std.specs.Prelude.{Option, Some, None}
 use Rattle.std.specs.Prelude.{ℕ, zero, suc, ◌+◌, ◌<◌, ◌≡◌, refl, Bool, List, length, get_or, eqb}
 use Rattle.std.proofs.Math.Path.{sym}
 use Rattle.std.proofs.Common.{◌∙◌, arith, zero-add, eq-eqb, ne_eqb}
@@ -18,9 +21,6 @@ use Rattle.state.specs.World.{no_column}
 use Rattle.codes.specs.declared.Coded.{Coded}
 use Rattle.codes.specs.TakeLaws.{length-columns_in, get_d_columns_in}
 use Rattle.codes.specs.Code.{
-use Rattle.std.specs.Prelude.{Option, Some, None}
-use Rattle.counts.specs.declared.BufferNumber.{BufferNumber}
-use Rattle.counts.specs.declared.RowCount.{RowCount}
   state_bytes,
   is_flagged,
   limit_in,

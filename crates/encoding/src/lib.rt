@@ -4,6 +4,7 @@
 ghost use Rattle.std.specs.Prelude.{◌≡◌, ◌+◌, ◌*◌, ◌≤◌, ◌++◌, length, take};
 ghost use Rattle.codes.specs.Code.{state_bytes, columns_at, bytes_of, limit_words, block_words, column_words, columns_words, set_up_words, count_words, code_of, limited, Words};
 
+use counts::{BufferNumber, RowCount};
 use state::{BatchCoalescer, Column};
 
 // Words at `at`: each of the functions below writes behind what stands already, from word 0 on.

@@ -8,8 +8,9 @@ use mir.Val.{Val}
 use denote.Shadow.{shadow}
 use denote.Array.{each}
 use borrow.Author.Rules.{rules}
-use Rattle.state.specs.contracts.OpenBlock as block_row
-use Rattle.state.specs.contracts.Limit as limit_row
+use Rattle.std.specs.contracts.option.Option as option_row
+use Rattle.counts.specs.contracts.BufferNumber as number_row
+use Rattle.counts.specs.contracts.RowCount as rows_row
 use Rattle.state.specs.contracts.Column as column_row
 use Rattle.state.specs.contracts.BatchCoalescer as state_row
 use Rattle.state.specs.declared.BatchCoalescer.{BatchCoalescer}
@@ -23,12 +24,12 @@ use Rattle.counts.specs.declared.BufferNumber.{BufferNumber}
 use Rattle.counts.specs.declared.RowCount.{RowCount}
 
 -- what the value of an open block, a limit, a column, an array of columns and a state is known to be by its type
-block-known : (o : Option BufferNumber) (us : List Val) → shadow ((block_row.the_field).row.own_val ((block_row.the_field).into o) us) → block_number o < 2 ^ 32
+block-known : (o : Option BufferNumber) (us : List Val) → shadow ((option_row.the_field number_row.the_row).row.own_val ((option_row.the_field number_row.the_row).into o) us) → block_number o < 2 ^ 32
 unfolding block_number
 block-known (Some k) us p = p.1.1.1.1.0.1.1.0.1
 block-known None us p = omega arith
 
-limit-known : (l : Option RowCount) (us : List Val) → shadow ((limit_row.the_field).row.own_val ((limit_row.the_field).into l) us) → limit_number l < 2 ^ 32
+limit-known : (l : Option RowCount) (us : List Val) → shadow ((option_row.the_field rows_row.the_row).row.own_val ((option_row.the_field rows_row.the_row).into l) us) → limit_number l < 2 ^ 32
 unfolding limit_number
 limit-known (Some k) us p = p.1.1.1.1.0.1.1.0.1
 limit-known None us p = omega arith
