@@ -1,11 +1,11 @@
 -- Padding: the bytes of a view behind its own, a word at a time, as the code looks at them.
-use Rattle.std.specs.Prelude.{ℕ, zero, suc, ◌+◌, ◌-◌, ◌*◌, ◌/◌, ◌%◌, ◌≤◌, ◌<◌, ◌^◌, ◌≡◌, refl, Bool, true, false, ◌&&◌, cond, List, [], ◌∷◌, ◌++◌, length, get_or, ltb, leb, eqb}
-use Rattle.std.proofs.Common.{sym, ◌∙◌, ap, arith, get_or-append-add, ltb-true, eqb-true, lt-ltb, le-ltb, eq-eqb}
+use Rattle.std.specs.Prelude.{ℕ, zero, suc, ◌+◌, ◌-◌, ◌*◌, ◌/◌, ◌%◌, ◌≤◌, ◌<◌, ◌^◌, ◌≡◌, Bool, true, false, ◌&&◌, cond, List, ◌++◌, get_or, ltb, eqb}
+use Rattle.std.proofs.Common.{sym, ◌∙◌, arith, get_or-append-add, eqb-true, lt-ltb, le-ltb, eq-eqb}
 use Rattle.std.proofs.Math.Bool.{and-eq-true_iff}
 use Rattle.std.proofs.Math.Decide.{dec_lt}
 use Rattle.std.proofs.Math.ListN.{get_or-append}
-use Rattle.search.specs.Cases.{same_test, both, both_fails, both_rest}
-use Rattle.search.specs.Every.{every, every-says, every_is}
+use Rattle.search.specs.Cases.{same_test, both, both_fails}
+use Rattle.search.specs.Every.{every-says, every_is}
 use Rattle.views.specs.declared.View.{View}
 use Rattle.views.specs.View.{bytes_of, inline_bytes, zero_from, is_padded}
 

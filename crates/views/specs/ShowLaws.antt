@@ -1,10 +1,10 @@
 -- What a view shows: laws by cases, and that a copied, raised or repointed view is valid and shows the same bytes.
-use Rattle.std.specs.Prelude.{ℕ, zero, suc, ◌+◌, ◌-◌, ◌*◌, ◌/◌, ◌%◌, ◌≤◌, ◌<◌, ◌^◌, ◌≡◌, refl, Bool, true, false, ◌&&◌, cond, List, [], ◌∷◌, ◌++◌, length, get_or, take, ltb, leb, eqb}
-use Rattle.std.proofs.Common.{sym, ◌∙◌, ap, arith, add-zero, length-take, length-append, ext_get_or, get_or-take, ltb-true, leb-true, eqb-true, lt-ltb, le-leb, eq-eqb}
+use Rattle.std.specs.Prelude.{ℕ, zero, suc, ◌+◌, ◌-◌, ◌≤◌, ◌<◌, ◌≡◌, refl, true, false, ◌&&◌, List, length, get_or, take, ltb, leb, eqb}
+use Rattle.std.proofs.Common.{sym, ◌∙◌, ap, arith, add-zero, length-take, ext_get_or, get_or-take, ltb-true, leb-true, eqb-true, lt-ltb, le-leb, eq-eqb}
 use Rattle.std.proofs.Math.Bool.{and-eq-true_iff}
 use Rattle.std.proofs.Math.Decide.{dec_lt}
 use Rattle.std.proofs.lemmas.Bool.{lt-leb}
-use Rattle.search.specs.Cases.{both, both_fails, both_rest}
+use Rattle.search.specs.Cases.{both}
 use Rattle.words.specs.Word.{word32, word_of}
 use Rattle.words.specs.WordLaws.{Bytes}
 use Rattle.words.specs.Run.{read}
@@ -12,7 +12,7 @@ use Rattle.words.specs.RunLaws.{length-read}
 use Rattle.words.specs.FrameLaws.{get_d_read, word_read}
 use Rattle.views.specs.declared.View.{View}
 use Rattle.views.specs.declared.Buffer.{Buffer}
-use Rattle.views.specs.View.{view_of, is_inline, bytes_of, inline_bytes, is_padded, in_buffer, is_valid, shows, filled, long_length, repointed, raised_by}
+use Rattle.views.specs.View.{view_of, bytes_of, inline_bytes, is_padded, in_buffer, is_valid, shows, filled, long_length, repointed, raised_by}
 use Rattle.views.specs.PadLaws.{inline_prefix, inline_index, inline_offset}
 
 -- the two cases

@@ -1,10 +1,10 @@
 -- A stored view: what it reads as, and every other byte.
-use Rattle.std.specs.Prelude.{ℕ, ◌+◌, ◌-◌, ◌≤◌, ◌<◌, ◌^◌, ◌≡◌, refl, List, length}
+use Rattle.std.specs.Prelude.{ℕ, ◌+◌, ◌≤◌, ◌<◌, ◌^◌, ◌≡◌, refl, List, length}
 use Rattle.std.proofs.Common.{arith}
 use Rattle.words.specs.Word.{word32, with_word32}
 use Rattle.words.specs.WordLaws.{Bytes, word32_lt, word32-same, word32_other, length-with_word32, bytes-with_word32}
 use Rattle.words.specs.Frame.{Agrees, Framed, Apart}
-use Rattle.words.specs.FrameLaws.{word_framed, framed_trans, framed_wider, framed_word, framed_agrees, agrees_word}
+use Rattle.words.specs.FrameLaws.{word_framed, framed_trans, framed_wider, framed_agrees, agrees_word}
 use Rattle.views.specs.declared.View.{View}
 use Rattle.views.specs.View.{view_of, with_view}
 

@@ -58,7 +58,7 @@ pub fn put_view(s: &mut [u8], at: usize, v: View)
 fn at_most_four(k: u32) -> u32
     ensures { (result ≡ at_most_four k) × (result < 5) }
 {
-    if k < 4 { k } else { 4 }
+    k.min(4)
 }
 
 // Whether the bytes of the word from byte k on are zero. A shift and no branches: rows of mixed lengths cost no more.
@@ -69,27 +69,14 @@ fn clear_from(word: u32, k: u32) -> bool
     (word as u64) >> bits == 0
 }
 
-// What is left of n behind k.
-fn behind(n: u32, k: u32) -> u32
-    ensures { result ≡ n - k }
-{
-    if n < k { 0 } else { n - k }
-}
-
 // Whether the bytes behind those of an inline view are zero: of the 12, each word from where the bytes end.
 pub fn is_padded(v: View) -> bool
     ensures { result ≡ is_padded v }
 {
     let n = v.length;
-    if clear_from(v.prefix, n) {
-        if clear_from(v.index, behind(n, 4)) {
-            clear_from(v.offset, behind(n, 8))
-        } else {
-            false
-        }
-    } else {
-        false
-    }
+    clear_from(v.prefix, n)
+        && clear_from(v.index, n.saturating_sub(4))
+        && clear_from(v.offset, n.saturating_sub(8))
 }
 
 // Whether a long view lies in the filled part of its buffer and begins with its bytes.
@@ -99,12 +86,7 @@ pub fn in_buffer(v: View, b: Buffer, pool: &[u8]) -> bool
 {
     let offset = v.offset as usize;
     let end = offset + (v.length as usize);
-    if end <= (b.length.0 as usize) {
-        let at = (b.start as usize) + offset;
-        words::get32(pool, at) == v.prefix
-    } else {
-        false
-    }
+    end <= (b.length.0 as usize) && words::get32(pool, (b.start as usize) + offset) == v.prefix
 }
 
 // The bytes that a long view shows, and 0 for an inline one: what it adds to ideal.
@@ -125,10 +107,8 @@ pub fn raise(v: View, k: u32) -> View
 {
     if MAX_INLINE_VIEW_LEN < v.length {
         View {
-            length: v.length,
-            prefix: v.prefix,
             index: v.index + k,
-            offset: v.offset,
+            ..v
         }
     } else {
         v
@@ -140,12 +120,8 @@ pub fn repoint(v: View, index: u32, offset: u32) -> View
     ensures { result ≡ repointed index offset v }
 {
     if v.length <= MAX_INLINE_VIEW_LEN {
-        return v;
-    }
-    View {
-        length: v.length,
-        prefix: v.prefix,
-        index,
-        offset,
+        v
+    } else {
+        View { index, offset, ..v }
     }
 }

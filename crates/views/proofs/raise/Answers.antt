@@ -1,11 +1,7 @@
 -- `views::raise` meets its contract.
-use native.Mathlib.Omega.{arith}
 use borrow.Author.Rules.{rules}
 use Rattle.views.specs.ShowLaws.{raise_inline, raise_long}
 use Rattle.views.proofs.raise.Goals as goal
-
-pub overflow_add-result : goal.overflow_add-result
-overflow_add-result c = omega (arith, c.requires.fits (omega arith))
 
 pub returns-then-v-gt-MAX_INLINE_VIEW_LEN : goal.returns-then-v-gt-MAX_INLINE_VIEW_LEN
 returns-then-v-gt-MAX_INLINE_VIEW_LEN c = search (raise_long, rules)

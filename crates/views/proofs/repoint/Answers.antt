@@ -6,5 +6,5 @@ use Rattle.views.proofs.repoint.Goals as goal
 pub returns-then-v-le-MAX_INLINE_VIEW_LEN : goal.returns-then-v-le-MAX_INLINE_VIEW_LEN
 returns-then-v-le-MAX_INLINE_VIEW_LEN c = search (repoint_inline, rules)
 
-pub returns : goal.returns
-returns c = search (repoint-long, rules)
+pub returns-else-v-le-MAX_INLINE_VIEW_LEN : goal.returns-else-v-le-MAX_INLINE_VIEW_LEN
+returns-else-v-le-MAX_INLINE_VIEW_LEN c = search (repoint-long, rules)
