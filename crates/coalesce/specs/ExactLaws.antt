@@ -1,6 +1,6 @@
 -- push_batch is the call: a law for each exit of push_judged and of push_batch.
-use Rattle.std.specs.Prelude.{ℕ, ◌≡◌, List}
-use Rattle.std.proofs.Common.{sym, ◌∙◌, ap, arith}
+use Rattle.std.specs.Prelude.{ℕ, ◌≡◌, Bool, true, false, List, Result, Ok, Err}
+use Rattle.std.proofs.Common.{sym, ◌∙◌, ap}
 use Rattle.std.proofs.Math.Decide.{ℕ_discrete}
 use Rattle.rules.specs.declared.Step.{Step}
 use Rattle.rules.specs.Leaves.{Steps}
@@ -13,9 +13,8 @@ use Rattle.rules.specs.Calls.{Answered, or_old, push_call}
 use Rattle.trial_truth.specs.Like.{number_of}
 use Rattle.trial.specs.Trial.{Answers}
 use Rattle.trial.specs.NumberLaws.{answers_number, answers_refuses}
-use Rattle.judging.specs.declared.Verdict.{Verdict}
 use Rattle.judging.specs.Judging.{verdict_of, Judges}
-use Rattle.judging.specs.JudgeLaws.{turn, VerdictCase, refuses, nothing, goes, verdict_case}
+use Rattle.judging.specs.JudgeLaws.{VerdictCase, refuses, nothing, goes, verdict_case}
 use Rattle.finishing.specs.Finish.{answered}
 use Rattle.coalesce.specs.Push.{Ready}
 
@@ -53,42 +52,42 @@ unfolding push_call
 call_is w b e = ap (or_old w) e
 
 module _ (w : World) (b : Batch) where
-  says_go : verdict_of w b ≡ Verdict.Go → pushed w b ≡ stepped w b
+  says_go : verdict_of w b ≡ Ok true → pushed w b ≡ stepped w b
   says_go e = go (verdict_case w b)
     where
       go : VerdictCase w b → pushed w b ≡ stepped w b
-      go (refuses n x y) = let q : ◌≡◌ {A = ℕ} 2 0 = ap turn (sym x ∙ e) in absurd (omega arith)
-      go (nothing x y) = let q : ◌≡◌ {A = ℕ} 1 0 = ap turn (sym x ∙ e) in absurd (omega arith)
+      go (refuses n x y) = absurd (cc)
+      go (nothing x y) = absurd (cc)
       go (goes x g y) = y
 
-  says_nothing : verdict_of w b ≡ Verdict.Nothing → pushed w b ≡ ok w
+  says_nothing : verdict_of w b ≡ Ok false → pushed w b ≡ ok w
   says_nothing e = go (verdict_case w b)
     where
       go : VerdictCase w b → pushed w b ≡ ok w
-      go (refuses n x y) = let q : ◌≡◌ {A = ℕ} 2 1 = ap turn (sym x ∙ e) in absurd (omega arith)
+      go (refuses n x y) = absurd (cc)
       go (nothing x y) = y
-      go (goes x g y) = let q : ◌≡◌ {A = ℕ} 0 1 = ap turn (sym x ∙ e) in absurd (omega arith)
+      go (goes x g y) = absurd (cc)
 
-  says-refused : (n : ℕ) → verdict_of w b ≡ Verdict.Refused n → pushed w b ≡ refuse n
+  says-refused : (n : ℕ) → verdict_of w b ≡ Err n → pushed w b ≡ refuse n
   says-refused n e = go (verdict_case w b)
     where
       go : VerdictCase w b → pushed w b ≡ refuse n
-      go (refuses m x y) = let q : Verdict.Refused m ≡ Verdict.Refused n = sym x ∙ e in let z : m ≡ n = cc in y ∙ ap refuse z
-      go (nothing x y) = let q : ◌≡◌ {A = ℕ} 1 2 = ap turn (sym x ∙ e) in absurd (omega arith)
-      go (goes x g y) = let q : ◌≡◌ {A = ℕ} 0 2 = ap turn (sym x ∙ e) in absurd (omega arith)
+      go (refuses m x y) = let q : ◌≡◌ {A = Result Bool ℕ} (Err m) (Err n) = sym x ∙ e in let z : m ≡ n = cc in y ∙ ap refuse z
+      go (nothing x y) = absurd (cc)
+      go (goes x g y) = absurd (cc)
 
-module _ {s : BatchCoalescer} {slots pool books : List ℕ} {b : Batch} {v : Verdict} (j : Judges s slots pool books b v) where
+module _ {s : BatchCoalescer} {slots pool books : List ℕ} {b : Batch} {v : Result Bool ℕ} (j : Judges s slots pool books b v) where
   abbrev u : World
   u = world s slots pool books
 
-  verdict_is : {o : Verdict} → v ≡ o → verdict_of u b ≡ o
+  verdict_is : {o : Result Bool ℕ} → v ≡ o → verdict_of u b ≡ o
   verdict_is g = sym j.verdict_is ∙ g
 
-  pub push_goes : {r : Step} {slots' pool' books' : List ℕ} → v ≡ Verdict.Go → answered r slots' pool' books' ≡ or_old (world s slots pool books) (stepped (world s slots pool books) b) → answered r slots' pool' books' ≡ push_call (world s slots pool books) b
+  pub push_goes : {r : Step} {slots' pool' books' : List ℕ} → v ≡ Ok true → answered r slots' pool' books' ≡ or_old (world s slots pool books) (stepped (world s slots pool books) b) → answered r slots' pool' books' ≡ push_call (world s slots pool books) b
   push_goes g d = d ∙ sym (call_is u b (says_go u b (verdict_is g)))
 
-  pub push_nothing : v ≡ Verdict.Nothing → answered (record { state = s; number = 0 }) slots pool books ≡ push_call (world s slots pool books) b
+  pub push_nothing : v ≡ Ok false → answered (record { state = s; number = 0 }) slots pool books ≡ push_call (world s slots pool books) b
   push_nothing g = sym (call_is u b (says_nothing u b (verdict_is g)))
 
-  pub push_refused : {n : ℕ} → v ≡ Verdict.Refused n → answered (record { state = s; number = n }) slots pool books ≡ push_call (world s slots pool books) b
+  pub push_refused : {n : ℕ} → v ≡ Err n → answered (record { state = s; number = n }) slots pool books ≡ push_call (world s slots pool books) b
   push_refused {n} g = sym (call_is u b (says-refused u b n (verdict_is g)))

@@ -1,5 +1,5 @@
 -- What the tests of a push give its steps: a law for each exit.
-use Rattle.std.specs.Prelude.{ℕ, ◌≡◌, refl, List, []}
+use Rattle.std.specs.Prelude.{ℕ, ◌≡◌, refl, Bool, true, List, [], Result, Ok}
 use Rattle.std.proofs.Common.{sym, ◌∙◌}
 use Rattle.columns.specs.Pushing.{Pushing}
 use Rattle.push_safety.specs.Run.{Readable}
@@ -15,7 +15,6 @@ use Rattle.trial.specs.UnmarkedLaws.{tested_unmarked}
 use Rattle.routes.specs.declared.Sources.{Sources}
 use Rattle.routes.specs.Sourced.{Sourced}
 use Rattle.trial_truth.specs.OwnLaws.{tested_own}
-use Rattle.judging.specs.declared.Verdict.{Verdict}
 use Rattle.judging.specs.Judging.{Judges}
 use Rattle.judging.specs.JudgeLaws.{verdict_go}
 use Rattle.buffered.specs.RunningLaws.{running}
@@ -37,7 +36,7 @@ module _ (s : BatchCoalescer) (slots pool books slots' pool' : List ℕ) where
       }
 
 -- what push_judged asks, where the verdict is to go on
-pub ready : {s : BatchCoalescer} {slots pool books : List ℕ} {b : Batch} {v : Verdict} → Judges s slots pool books b v → v ≡ Verdict.Go → Ready s slots pool books b
+pub ready : {s : BatchCoalescer} {slots pool books : List ℕ} {b : Batch} {v : Result Bool ℕ} → Judges s slots pool books b v → v ≡ Ok true → Ready s slots pool books b
 ready {s} {slots} {pool} {books} {b} j g =
     let x = verdict_go (world s slots pool books) b (sym j.verdict_is ∙ g) in
     let z : tested (world s slots pool books) ≡ 0 = x.passed in

@@ -12,7 +12,6 @@ ghost use Rattle.finishing.specs.Finish.{answered};
 ghost use Rattle.coalesce.specs.Push.{Ready};
 
 use counts::RowCount;
-use judging::Verdict;
 use rules::Step;
 use state::BatchCoalescer;
 
@@ -55,13 +54,12 @@ pub fn push_batch(
     ensures { answered result slots.new pool.new books.new
         ≡ push_call (world s slots.old pool.old books.old) (batch rows.0 records.now body.now) }
 {
-    let verdict = judging::judge(s, slots, pool, books, records, body, rows);
-    match verdict {
-        Verdict::Go => push_judged(s, slots, pool, books, records, body, rows),
-        Verdict::Nothing => Step {
+    match judging::judge(s, slots, pool, books, records, body, rows) {
+        Ok(true) => push_judged(s, slots, pool, books, records, body, rows),
+        Ok(false) => Step {
             state: s,
             number: 0,
         },
-        Verdict::Refused(number) => Step { state: s, number },
+        Err(number) => Step { state: s, number },
     }
 }

@@ -36,6 +36,7 @@ fn list_ruled(r: ColumnRecord, kind: u32) -> bool
 pub fn keeps_rules(r: ColumnRecord, kind: u32) -> bool
     ensures { result ≡ is_ruled r kind }
 {
+    // Kept: & between the tests: && gives the proof a case of its own for each of them, and reads no plainer.
     (r.kind == kind) & (r.spare == 0) & (r.spare2 == 0) & bit_ruled(r) & list_ruled(r, kind)
 }
 
@@ -72,6 +73,7 @@ pub fn lies_in_body(r: ColumnRecord, rows: RowCount, width: u32, size: ByteSum) 
     requires { (rows.0 ≤ 65536) × (width ≤ 32) }
     ensures { result ≡ lies_within r rows.0 width size.0 }
 {
+    // Kept: & between the tests: && gives the proof a case of its own for each of them, and reads no plainer.
     in_body(r.values, ByteSum((rows.0 as u64) * (width as u64)), size)
         & bits_in_body(r, rows, size)
         & in_body(r.list, ByteSum(4 * (r.count as u64)), size)

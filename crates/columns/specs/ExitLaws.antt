@@ -1,10 +1,8 @@
 -- One law for each exit of a function here: what the code has learnt there, and its contract; and what its calls ask.
-use Rattle.std.specs.Prelude.{ℕ, ◌+◌, ◌*◌, ◌-◌, ◌≤◌, ◌<◌, ◌≡◌, refl, Bool, true, false, List, [], length, set}
+use Rattle.std.specs.Prelude.{ℕ, ◌+◌, ◌*◌, ◌≤◌, ◌≡◌, Bool, true, false, List, [], length, set}
 use Rattle.std.proofs.Common.{sym, ◌∙◌, ap, arith}
 use Rattle.counts.specs.declared.BufferNumber.{BufferNumber}
 use Rattle.counts.specs.declared.ByteSum.{ByteSum}
-use Rattle.books.specs.declared.Entry.{Entry}
-use Rattle.books.specs.Entry.{entry_of}
 use Rattle.blocks.specs.declared.BufferSource.{BufferSource}
 use Rattle.state.specs.declared.BatchCoalescer.{BatchCoalescer}
 use Rattle.state.specs.declared.Column.{Column}
@@ -80,11 +78,3 @@ module _ (s : BatchCoalescer) (books : List ℕ) (c : ℕ) {n : ℕ} {k : Column
   pub closed_one : {j : BufferNumber} → k.block ≡ Some j → n + 1 ≡ closed_length (world s [] [] books) c
   unfolding closed_length
   closed_one {j} e = rw (has_block_lem e) (ap (λ (m : ℕ). m + 1) p)
-
--- rest_of: a block filled within its capacity, and one that is not
-module _ (books : List ℕ) (k : ℕ) {e : Entry} (p : e ≡ entry_of books k) where
-  pub rest_some : e.capacity.0 - e.length.0 ≡ (entry_of books k).capacity.0 - (entry_of books k).length.0
-  rest_some = ap (λ (x : Entry). x.capacity.0 - x.length.0) p
-
-  pub rest-none : e.capacity.0 < e.length.0 → 0 ≡ (entry_of books k).capacity.0 - (entry_of books k).length.0
-  rest-none h = rw (← p) (omega arith)

@@ -84,9 +84,5 @@ pub fn rest_of(books: &[u8], k: BufferNumber) -> ByteSum
     ensures { result.0 ≡ (entry_of books.now k.0).capacity.0 - (entry_of books.now k.0).length.0 }
 {
     let e = books::entry_at(books, k);
-    if e.length.0 <= e.capacity.0 {
-        ByteSum((e.capacity.0 - e.length.0) as u64)
-    } else {
-        ByteSum(0)
-    }
+    ByteSum(e.capacity.0.saturating_sub(e.length.0) as u64)
 }

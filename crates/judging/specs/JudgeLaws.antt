@@ -1,8 +1,8 @@
 -- The exits of judge, and what a verdict says.
-use Rattle.std.specs.Prelude.{ℕ, ◌≡◌, ◌≢◌, true, List, []}
+use Rattle.std.specs.Prelude.{ℕ, ◌≡◌, ◌≢◌, Bool, true, false, List, [], Result, Ok, Err}
 use Rattle.std.proofs.Math.Path.{refl}
-use Rattle.std.proofs.Common.{sym, ◌∙◌, ap, arith}
-use Rattle.std.specs.Prelude.{Option, None, Some}
+use Rattle.std.proofs.Common.{sym, ◌∙◌, ap}
+use Rattle.std.proofs.Math.Option.{Option, none, some}
 use Rattle.std.proofs.Math.Decide.{ℕ_discrete}
 use borrow.Author.Tests.{ne_eqb}
 use Rattle.words.specs.WordLaws.{Bytes}
@@ -14,13 +14,11 @@ use Rattle.state.specs.declared.BatchCoalescer.{BatchCoalescer}
 use Rattle.state.specs.World.{World, world}
 use Rattle.rules.specs.declared.Fault.{Fault}
 use Rattle.rules.specs.Batch.{Batch, batch, value_place, row_view, listed_bytes}
-use Rattle.rules.specs.Checks.{keeps_rules, lies_in_body, all_held, valid_row, bad_row, column_fault, batch_fault, fault_of}
-use Rattle.rules.proofs.CheckLaws.{fault-number}
-use Rattle.rules.specs.Held.{among_not}
+use Rattle.rules.specs.Checks.{keeps_rules, lies_in_body, all_held, valid_row, bad_row, column_fault, batch_fault}
+use Rattle.checks.specs.Checked.{refused_by}
 use Rattle.rules.specs.Steps.{ok, refuse}
 use Rattle.rules.specs.Push.{pushed, stepped}
 use Rattle.rules.specs.Ranges.{tested}
-use Rattle.judging.specs.declared.Verdict.{Verdict}
 use Rattle.judging.specs.Judging.{of_fault, verdict_of, Judges}
 
 -- ---- the slots are not read
@@ -40,54 +38,42 @@ module _ (s : BatchCoalescer) (slots pool books : List ℕ) {n : ℕ} (e : n ≡
       (sym (ap (in_range books s.numbers) (says-pool s slots pool books e z) ∙ says_range s slots pool books e z))
       refl (says_entries s slots pool books e z)
 
--- ---- the exits of judge: n is what the tests answered, f the fault
+-- ---- the exits of judge: n is what the tests answered
 
-fault-some : (w : World) (b : Batch) (f : Fault) → batch_fault w b ≡ Some f → f.number ≢ 0
-fault-some w b f e = among_not 0 refl (fault-number w b f e)
+-- what the checks answered
+go_is : (o : Option Fault) {u : Unit {0}} → Ok u ≡ refused_by o → Ok true ≡ of_fault o
+go_is none e = refl
+go_is (some f) e = absurd (cc)
+
+number_is : (o : Option Fault) {f : Fault} → Err f ≡ refused_by o → Err f.number ≡ of_fault o
+number_is none e = absurd (cc)
+number_is (some g) {f} e = let q : f ≡ g = cc in rw q
 
 module _ (s : BatchCoalescer) (slots pool books records body : List ℕ) (rows : ℕ) {n : ℕ} (e : n ≡ tested (world s slots pool books)) where
-  pub judge_refused : (n ≡ 0 → ⊥) → Verdict.Refused n ≡ verdict_of (world s slots pool books) (batch rows records body)
+  pub judge_refused : (n ≡ 0 → ⊥) → Err n ≡ verdict_of (world s slots pool books) (batch rows records body)
   unfolding verdict_of
   judge_refused h = rw (← e, ne_eqb n 0 h)
 
   module _ (z : n ≡ 0) where
-    pub judge_nothing : rows ≡ 0 → Verdict.Nothing ≡ verdict_of (world s slots pool books) (batch rows records body)
+    pub judge_nothing : rows ≡ 0 → Ok false ≡ verdict_of (world s slots pool books) (batch rows records body)
     unfolding verdict_of
     judge_nothing q = rw (← e, z, q)
 
-    module _ (m : rows ≡ 0 → ⊥) {f : Fault} (p : f ≡ fault_of (batch_fault (world s [] pool books) (batch rows records body))) where
-      fault_is : f ≡ fault_of (batch_fault (world s slots pool books) (batch rows records body))
-      fault_is = p ∙ ap fault_of (fault_beside s [] pool books slots (batch rows records body))
-
-      judged : of_fault (batch_fault (world s slots pool books) (batch rows records body)) ≡ verdict_of (world s slots pool books) (batch rows records body)
+    module _ (m : rows ≡ 0 → ⊥) where
+      judged : of_fault (batch_fault (world s [] pool books) (batch rows records body)) ≡ verdict_of (world s slots pool books) (batch rows records body)
       unfolding verdict_of
-      judged = rw (← e, z, ne_eqb rows 0 m)
+      judged = rw (← e, z, ne_eqb rows 0 m, fault_beside s [] pool books slots (batch rows records body))
 
-      pub judge_go : f.number ≡ 0 → Verdict.Go ≡ verdict_of (world s slots pool books) (batch rows records body)
-      judge_go q = go (batch_fault (world s slots pool books) (batch rows records body)) refl ∙ judged
-        where
-          go : (o : Option Fault) → batch_fault (world s slots pool books) (batch rows records body) ≡ o → Verdict.Go ≡ of_fault (batch_fault (world s slots pool books) (batch rows records body))
-          go None x = rw x
-          go (Some g) x =
-              absurd (fault-some (world s slots pool books) (batch rows records body) g x (sym (ap (λ (y : Fault). y.number) (fault_is ∙ ap fault_of x)) ∙ q))
+      pub judge_go : {u : Unit {0}} → Ok u ≡ refused_by (batch_fault (world s [] pool books) (batch rows records body)) → Ok true ≡ verdict_of (world s slots pool books) (batch rows records body)
+      judge_go q = go_is _ q ∙ judged
 
-      pub judge_fault : (f.number ≡ 0 → ⊥) → Verdict.Refused f.number ≡ verdict_of (world s slots pool books) (batch rows records body)
-      judge_fault q = go (batch_fault (world s slots pool books) (batch rows records body)) refl ∙ judged
-        where
-          go : (o : Option Fault) → batch_fault (world s slots pool books) (batch rows records body) ≡ o → Verdict.Refused f.number ≡ of_fault (batch_fault (world s slots pool books) (batch rows records body))
-          go None x = absurd (q (ap (λ (y : Fault). y.number) (fault_is ∙ ap fault_of x)))
-          go (Some g) x = rw x (ap (λ (y : Fault). Verdict.Refused y.number) (fault_is ∙ ap fault_of x))
+      pub judge_fault : {f : Fault} → Err f ≡ refused_by (batch_fault (world s [] pool books) (batch rows records body)) → Err f.number ≡ verdict_of (world s slots pool books) (batch rows records body)
+      judge_fault q = number_is _ q ∙ judged
 
-pub judges : {s : BatchCoalescer} {slots pool books : List ℕ} {b : Batch} {v : Verdict} → v ≡ verdict_of (world s slots pool books) b → Bytes books → Judges s slots pool books b v
+pub judges : {s : BatchCoalescer} {slots pool books : List ℕ} {b : Batch} {v : Result Bool ℕ} → v ≡ verdict_of (world s slots pool books) b → Bytes books → Judges s slots pool books b v
 judges e b = record { verdict_is = e; bytes = b }
 
 -- ---- what a verdict says
-
--- the verdicts are different
-abbrev pub turn : Verdict → ℕ
-turn Verdict.Go = 0
-turn Verdict.Nothing = 1
-turn (Verdict.Refused n) = 2
 
 pub record MayGoOn (w : World) (b : Batch) : Type 0 where
   pub passed : tested w ≡ 0
@@ -97,9 +83,9 @@ pub record MayGoOn (w : World) (b : Batch) : Type 0 where
 module _ (w : World) (b : Batch) where
   -- one of the three, with what it says of the call
   pub data VerdictCase : Type 0 where
-    refuses : (n : ℕ) → verdict_of w b ≡ Verdict.Refused n → pushed w b ≡ refuse n → VerdictCase
-    nothing : verdict_of w b ≡ Verdict.Nothing → pushed w b ≡ ok w → VerdictCase
-    goes : verdict_of w b ≡ Verdict.Go → MayGoOn w b → pushed w b ≡ stepped w b → VerdictCase
+    refuses : (n : ℕ) → verdict_of w b ≡ Err n → pushed w b ≡ refuse n → VerdictCase
+    nothing : verdict_of w b ≡ Ok false → pushed w b ≡ ok w → VerdictCase
+    goes : verdict_of w b ≡ Ok true → MayGoOn w b → pushed w b ≡ stepped w b → VerdictCase
 
   pub verdict_case : VerdictCase
   unfolding verdict_of pushed
@@ -113,10 +99,10 @@ module _ (w : World) (b : Batch) where
       go (yes p) (no q) (Some f) x =
           refuses f.number (rw (p, ne_eqb b.rows 0 q, x)) (rw (p, ne_eqb b.rows 0 q, x, pushed))
 
-  pub verdict_go : verdict_of w b ≡ Verdict.Go → MayGoOn w b
+  pub verdict_go : verdict_of w b ≡ Ok true → MayGoOn w b
   verdict_go e = go verdict_case
     where
       go : VerdictCase → MayGoOn w b
-      go (refuses n x y) = let q : ◌≡◌ {A = ℕ} 2 0 = ap turn (sym x ∙ e) in absurd (omega arith)
-      go (nothing x y) = let q : ◌≡◌ {A = ℕ} 1 0 = ap turn (sym x ∙ e) in absurd (omega arith)
+      go (refuses n x y) = absurd (cc)
+      go (nothing x y) = absurd (cc)
       go (goes x g y) = g

@@ -8,15 +8,7 @@ ghost use Rattle.judging.specs.Judging.{Judges};
 use counts::RowCount;
 use state::BatchCoalescer;
 
-// What the tests of a push say.
-#[derive(Clone, Copy)]
-pub enum Verdict {
-    Go,
-    Nothing,
-    Refused(u32),
-}
-
-// The tests of a push in order: 1, 14, then 0 rows, then 2 to 7.
+// The tests of a push in order: 1, 14, then 0 rows, then 2 to 7. Whether there are rows to push, or the number that refuses them.
 pub fn judge(
     s: BatchCoalescer,
     slots: &[u8],
@@ -25,22 +17,18 @@ pub fn judge(
     records: &[u8],
     body: &[u8],
     rows: RowCount,
-) -> Verdict
+) -> Result<bool, u32>
     ensures { Judges s slots.now pool.now books.now (batch rows.0 records.now body.now) result }
 {
     let number = ranges::tested(s, slots, pool, books);
-    if number == 0 {
-        if rows.0 == 0 {
-            Verdict::Nothing
-        } else {
-            let fault = checks::batch_fault(s, pool, books, records, body, rows);
-            if fault.number == 0 {
-                Verdict::Go
-            } else {
-                Verdict::Refused(fault.number)
-            }
-        }
-    } else {
-        Verdict::Refused(number)
+    if number != 0 {
+        return Err(number);
+    }
+    if rows.0 == 0 {
+        return Ok(false);
+    }
+    match checks::batch_fault(s, pool, books, records, body, rows) {
+        Ok(()) => Ok(true),
+        Err(fault) => Err(fault.number),
     }
 }

@@ -7,7 +7,7 @@ use mathlib.Core.List.{List, []}
 use native.Mathlib.Omega.{arith}
 use borrow.Author.Tests.{lt-ltb, le-ltb, le-leb, lt-leb, eq-eqb, ne_eqb, leb-true}
 use Rattle.std.proofs.Math.Bool.{and_assoc, and-eq-true_iff}
-use Rattle.search.specs.Every.{every, All, all_none, all_more, all_fails, all_done}
+use Rattle.search.specs.Every.{every, All, all_more, all_fails, all_done}
 use Rattle.search.specs.Cases.{both_fails, both_rest}
 use Rattle.words.specs.Word.{word32}
 use Rattle.books.specs.declared.Entry.{Entry}
@@ -71,9 +71,6 @@ module _ (column : Column) (k : ℕ) {b : Option BufferNumber} (p : b ≡ column
 
 -- none_before
 module _ (s : BatchCoalescer) (k : ℕ) where
-  pub before-none : All (not_open s k) 0
-  before-none = all_none (not_open s k)
-
   opens_is : (d : ℕ) {r : Bool} → r ≡ opens_in (get_or s.column d no_column) k → r ≡ has_open s k d
   unfolding opens_in has_open is_views column_of
   opens_is d q = q
@@ -85,9 +82,6 @@ module _ (s : BatchCoalescer) (k : ℕ) where
   pub before_fails : (c d : ℕ) {r : Bool} → d < c → r ≡ opens_in (get_or s.column d no_column) k → r ≡ true → false ≡ every (not_open s k) c
   unfolding not_open
   before_fails c d h q x = all_fails (not_open s k) c d h (ap not (sym (opens_is d q) ∙ x))
-
-  pub before-done : (c d : ℕ) → All (not_open s k) d → c ≤ d → true ≡ every (not_open s k) c
-  before-done c d a h = all_done c a h
 
 -- block_in_range
 module _ (s : BatchCoalescer) (books : List ℕ) (list c : ℕ) {b : Option BufferNumber} where
@@ -106,7 +100,7 @@ module _ (s : BatchCoalescer) (books : List ℕ) (list c : ℕ) {b : Option Buff
     pub block_is : {r : Bool} → v ≡ true → r ≡ every (not_open s k.0) c → r ≡ block_in_range s books list c b
     block_is x t = t ∙ both_rest _ x ∙ block_whole
 
--- column_in_range and columns_in_range
+-- column_in_range
 module _ (s : BatchCoalescer) (books : List ℕ) (c : ℕ) {k : Column} {v : Bool} (q : k ≡ column_of s c) (p : v ≡ is_view k.kind) where
   pub column_other : v ≡ false → true ≡ column_in_range (world s [] [] books) c
   unfolding column_in_range is_views
@@ -121,27 +115,11 @@ module _ (s : BatchCoalescer) (books : List ℕ) (c : ℕ) {k : Column} {v : Boo
     unfolding column_in_range is_views
     column-last y i h j = rw (← q, ← p, x, ← r, y, ← h, ← i) j
 
-module _ (s : BatchCoalescer) (books : List ℕ) where
-  pub columns_none : All (column_in_range (world s [] [] books)) 0
-  columns_none = all_none (column_in_range (world s [] [] books))
-
-  pub columns_more : (c : ℕ) {r : Bool} → All (column_in_range (world s [] [] books)) c → r ≡ column_in_range (world s [] [] books) c → r ≡ true → All (column_in_range (world s [] [] books)) (c + 1)
-  columns_more c a p x = all_more a (sym p ∙ x)
-
-  pub columns_fail : (c : ℕ) {r : Bool} → c < s.columns → r ≡ column_in_range (world s [] [] books) c → r ≡ false → false ≡ every (column_in_range (world s [] [] books)) s.columns
-  columns_fail c l p x = all_fails (column_in_range (world s [] [] books)) s.columns c l (sym p ∙ x)
-
-  pub columns_done : (c : ℕ) → All (column_in_range (world s [] [] books)) c → s.columns ≤ c → true ≡ every (column_in_range (world s [] [] books)) s.columns
-  columns_done c a l = all_done s.columns a l
-
 -- words_below
 unfoldable pub lower : List ℕ → ℕ → ℕ → ℕ → Bool
 lower l at n i = ltb (word32 l (at + 4 * i)) n
 
 module _ (l : List ℕ) (at n : ℕ) where
-  pub lower-none : All (lower l at n) 0
-  lower-none = all_none (lower l at n)
-
   pub lower-more : (i : ℕ) {w : ℕ} → All (lower l at n) i → w ≡ word32 l (at + 4 * i) → w < n → All (lower l at n) (i + 1)
   unfolding lower
   lower-more i {w} a p h = all_more a (rw (← p) (lt-ltb w n h))
@@ -188,12 +166,6 @@ listed_room s slot c n {u} {v} x y e p h k m =
 
 -- slot_in_range
 module _ (s : BatchCoalescer) (slots books : List ℕ) (slot : ℕ) where
-  pub lists_none : All (list_in_range (world s slots [] books) slot) 0
-  lists_none = all_none (list_in_range (world s slots [] books) slot)
-
-  pub lists_more : (c : ℕ) {r : Bool} → All (list_in_range (world s slots [] books) slot) c → r ≡ list_in_range (world s slots [] books) slot c → r ≡ true → All (list_in_range (world s slots [] books) slot) (c + 1)
-  lists_more c a p x = all_more a (sym p ∙ x)
-
   module _ {n : ℕ} (p : n ≡ rows_in (world s [] [] books) slot) where
     pub slot_long : s.rows.0 < n → false ≡ slot_in_range (world s slots [] books) slot
     unfolding slot_in_range rows_in
@@ -207,24 +179,6 @@ module _ (s : BatchCoalescer) (slots books : List ℕ) (slot : ℕ) where
       pub slot_done : All (list_in_range (world s slots [] books) slot) c → s.columns ≤ c → true ≡ slot_in_range (world s slots [] books) slot
       unfolding slot_in_range rows_in
       slot_done a l = rw (← p, le-leb n s.rows.0 h) (all_done s.columns a l)
-
--- slots_in_range
-module _ (s : BatchCoalescer) (slots books : List ℕ) where
-  pub slots_none : All (slot_in_range (world s slots [] books)) 0
-  slots_none = all_none (slot_in_range (world s slots [] books))
-
-  pub slots_more : (i : ℕ) {r : Bool} → All (slot_in_range (world s slots [] books)) i → r ≡ slot_in_range (world s slots [] books) i → r ≡ true → All (slot_in_range (world s slots [] books)) (i + 1)
-  slots_more i a p x = all_more a (sym p ∙ x)
-
-  pub slots_fail : (i : ℕ) {r : Bool} → i ≤ s.queue → r ≡ slot_in_range (world s slots [] books) i → r ≡ false → false ≡ every (slot_in_range (world s slots [] books)) (s.queue + 1)
-  slots_fail i l p x = all_fails (slot_in_range (world s slots [] books)) (s.queue + 1) i (omega arith) (sym p ∙ x)
-
-  -- the last one passed
-  pub slots_last : (i : ℕ) {r : Bool} → All (slot_in_range (world s slots [] books)) i → r ≡ slot_in_range (world s slots [] books) i → r ≡ true → s.queue ≤ i → true ≡ every (slot_in_range (world s slots [] books)) (s.queue + 1)
-  slots_last i a p x l = all_done (s.queue + 1) (slots_more i a p x) (omega arith)
-
-  pub slots_done : (i : ℕ) → All (slot_in_range (world s slots [] books)) i → s.queue < i → true ≡ every (slot_in_range (world s slots [] books)) (s.queue + 1)
-  slots_done i a l = all_done (s.queue + 1) a (omega arith)
 
 -- state_in_range: its tests together, and a place past the last slot
 module _ (s : BatchCoalescer) (slots books : List ℕ) where

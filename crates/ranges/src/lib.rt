@@ -38,6 +38,7 @@ fn between(low: u32, x: u32, high: u32) -> bool
 pub fn in_bounds(s: BatchCoalescer) -> bool
     ensures { result ≡ in_bounds s }
 {
+    // Kept: & between the tests: && gives the proof a case of its own for each of them, and reads no plainer.
     s.columns <= 16
         && (between(1, s.target.0, 65536)
             & between(s.target.0, s.rows.0, 65536)
@@ -51,6 +52,7 @@ pub fn in_bounds(s: BatchCoalescer) -> bool
 pub fn fits_set_up(s: BatchCoalescer, slots: usize, pool: usize, books: usize) -> bool
     ensures { result ≡ fits_lengths s slots pool books }
 {
+    // Kept: & between the tests: && gives the proof a case of its own for each of them, and reads no plainer.
     in_bounds(s)
         && ((slots == layout::slots_length(s))
             & (pool == s.pool.0 as usize)
@@ -188,6 +190,7 @@ fn state_in_range(s: BatchCoalescer, slots: &[u8], books: &[u8]) -> bool
     requires { Sized s (length slots.now) (length books.now) }
     ensures { result ≡ state_in_range (world s slots.now [] books.now) }
 {
+    // Kept: & between the tests: && gives the proof a case of its own for each of them, and reads no plainer.
     s.place <= s.queue
         && ((s.buffered.0 < s.target.0)
             & (s.queued <= s.queue)

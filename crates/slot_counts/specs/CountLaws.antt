@@ -1,7 +1,6 @@
 -- Counts lie in the books, and are the rows and list lengths that the definitions speak of.
 use Rattle.std.specs.Prelude.{ℕ, ◌+◌, ◌*◌, ◌≤◌, ◌≡◌, List, []}
 use Rattle.std.proofs.Common.{ap, arith, mul-le-mul_left}
-use Rattle.tallies.specs.declared.Tally.{Tally}
 use Rattle.tallies.specs.Tally.{tally_place, tally_of}
 use Rattle.state.specs.declared.BatchCoalescer.{BatchCoalescer}
 use Rattle.state.specs.World.{world}

@@ -69,11 +69,10 @@ pub fn next_to_fill(s: BatchCoalescer) -> BatchCoalescer
     requires { (Few s) × (s.place ≤ s.queue) × (s.queued < s.queue) }
     ensures { result ≡ with_counts s (next_slot s s.place) (s.queued + 1) 0 }
 {
-    let place = layout::next_slot(s, s.place);
-    let none = RowCount(0);
-    let mut t = s;
-    t.place = place;
-    t.queued = s.queued + 1;
-    t.buffered = none;
-    t
+    BatchCoalescer {
+        place: layout::next_slot(s, s.place),
+        queued: s.queued + 1,
+        buffered: RowCount(0),
+        ..s
+    }
 }

@@ -1,10 +1,11 @@
 -- `ranges::kinds_known` meets its contract.
 use borrow.Author.Rules.{rules}
-use Rattle.ranges.specs.BoundsLaws.{known-none, known_more, known_fails, known-done}
+use Rattle.search.specs.Every.{all_none}
+use Rattle.ranges.specs.BoundsLaws.{known_more, known_fails, known-done}
 use Rattle.ranges.proofs.kinds_known.Goals as goal
 
 pub loop-c-init : goal.loop-c-init
-loop-c-init c = search (known-none, rules)
+loop-c-init c = all_none _
 
 pub returns-in_default : goal.returns-in_default
 returns-in_default c = search (known_fails, rules)
