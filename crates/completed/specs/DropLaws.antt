@@ -14,11 +14,11 @@ use Rattle.listings.specs.Listing.{unlisted_one, over_list, Listed}
 use Rattle.listings.specs.ListingLaws.{unlisted_used}
 use Rattle.sound.specs.Change.{Roomy}
 use Rattle.sound.specs.OpLaws.{changed_roomy, unlisted_changed, used_lt}
-use Rattle.tallies.specs.Tally.{tally_place, with_tally}
+use Rattle.tallies.specs.Tally.{with_tally}
 use Rattle.tallies.specs.TallyLaws.{framed_tally}
 use Rattle.state.specs.declared.BatchCoalescer.{BatchCoalescer}
 use Rattle.state.specs.World.{World, world}
-use Rattle.state.specs.Layout.{is_views, tally, list_place, books_length, rows_in, list_length, queued_slot}
+use Rattle.state.specs.Layout.{is_views, tally, list_place, rows_in, list_length, queued_slot}
 use Rattle.state.proofs.LayoutLaws.{column_in_lem, bitmap_follows, list_follows}
 use Rattle.layout.specs.PlaceLaws.{list-below}
 use Rattle.ranges.specs.RangeLaws.{entries_room}

@@ -41,10 +41,8 @@ fn drop_lists(s: BatchCoalescer, slots: &[u8], books: &mut [u8], slot: u32)
     requires { Droppable s slots.now books.old slot }
     ensures { books.new ≡ lists_off s slots.now books.old slot s.columns }
 {
-    let mut c: u32 = 0;
-    while c < s.columns {
+    for c in 0..s.columns {
         drop_list(s, slots, books, slot, c);
-        c += 1;
     }
 }
 
@@ -53,10 +51,8 @@ fn uncount(s: BatchCoalescer, books: &mut [u8], slot: u32)
     requires { (Few s) × (slot ≤ s.queue) × (length books.old ≡ books_length s) }
     ensures { books.new ≡ counts_off s books.old slot (1 + s.columns) }
 {
-    let mut k: u32 = 0;
-    while k <= s.columns {
+    for k in 0..1 + s.columns {
         slot_counts::put_count(s, books, slot, k, 0);
-        k += 1;
     }
 }
 
@@ -74,7 +70,7 @@ fn drop_front(s: BatchCoalescer, slots: &[u8], books: &mut [u8]) -> Dropped
     Dropped {
         state: t,
         number: 0,
-        rows: RowCount(rows.0),
+        rows,
     }
 }
 
@@ -88,20 +84,18 @@ pub fn next_completed_batch(
     ensures { Drops (drop_call (world s slots.now pool.now books.old)) books.new result }
 {
     let number = ranges::tested(s, slots, pool, books);
-    if number == 0 {
-        if 0 < s.queued {
-            drop_front(s, slots, books)
-        } else {
-            Dropped {
-                state: s,
-                number: 0,
-                rows: RowCount(0),
-            }
-        }
-    } else {
+    if number != 0 {
         Dropped {
             state: s,
             number,
+            rows: RowCount(0),
+        }
+    } else if 0 < s.queued {
+        drop_front(s, slots, books)
+    } else {
+        Dropped {
+            state: s,
+            number: 0,
             rows: RowCount(0),
         }
     }

@@ -33,15 +33,9 @@ each_more n f w = let p : n + 1 ≡ suc n = omega arith in ap (λ (m : ℕ). eac
 pub running_closable : {s : BatchCoalescer} {slots books : List ℕ} → Running s books → length slots ≡ slots_length s → Closable s slots books
 running_closable r e = record { booked = running_booked r; slots_are = e }
 
--- ---- close_one
+-- ---- one column
 
 module _ {s : BatchCoalescer} {slots books : List ℕ} {c : ℕ} where
-  pub one_inside : Closable s slots books → c < s.columns → c < 16
-  one_inside x h = omega (arith, (booked_few x.booked).columns)
-
-  pub one_ready : {v : Bool} → Closable s slots books → c < s.columns → v ≡ is_views s c → v ≡ true → FillingViews s slots books c
-  one_ready x h e y = ready_at x.booked x.slots_are h (sym e ∙ y)
-
   pub one_views : {v : Bool} {t : BatchCoalescer} {slots' books' : List ℕ} → v ≡ is_views s c → v ≡ true → ClosesBlock s slots books c t slots' books' → ClosesOne s slots books c t slots' books'
   one_views {v} e y k = record { is = λ pool. go pool ∙ k.is pool }
     where
@@ -85,11 +79,7 @@ module _ {s : BatchCoalescer} {slots books : List ℕ} (x : Closable s slots boo
     pub closable_after : Closable t slots' books'
     closable_after = record { booked = run-booked a.goes.run; slots_are = a.goes.run.fit.slots_are }
 
-    -- what close_one asks
-    pub closes_asks : c < s.columns → (Closable t slots' books') × (c < t.columns)
-    closes_asks h = (closable_after, along_in a.beside c h)
-
-    pub closes_more : {u : BatchCoalescer} {slots'' books'' : List ℕ} → c < s.columns → ClosesOne t slots' books' c u slots'' books'' → ClosesAll s slots books (c + 1) u slots'' books''
+    closes_more : {u : BatchCoalescer} {slots'' books'' : List ℕ} → c < s.columns → ClosesOne t slots' books' c u slots'' books'' → ClosesAll s slots books (c + 1) u slots'' books''
     closes_more {u} {slots''} {books''} h o =
         record {
           is = λ pool. each_more c close (world s slots pool books) ∙ ap (λ (v : World). close v c) (k.is pool) ∙ o.is pool;
@@ -99,10 +89,21 @@ module _ {s : BatchCoalescer} {slots books : List ℕ} (x : Closable s slots boo
         next : (pool : List ℕ) → Along (world s slots pool books) (world t slots' pool books') → Along (world t slots' pool books') (world u slots'' pool books'')
         next pool b = moved (o.is pool) (close_along (world t slots' pool books') c b.goes.run (along_in b.beside c h))
 
-    -- a column that is not of views: what the loop looks at is the kind that set-up fixed
-    pub closes_plain : {v : Bool} → c < s.columns → v ≡ is_view (get_or s.column c no_column).kind → v ≡ false → ClosesAll s slots books (c + 1) t slots' books'
+    -- what the loop looks at is the kind that set-up fixed
+    looked : {v : Bool} → v ≡ is_view (get_or s.column c no_column).kind → v ≡ is_views t c
     unfolding is_views column_of
-    closes_plain h p y = closes_more h (one_other (p ∙ ap is_view (sym (a.beside.set_up.kind c))) y)
+    looked p = p ∙ ap is_view (sym (a.beside.set_up.kind c))
+
+    -- a column of views: what finish_current asks, and what it leaves; and one that is not
+    pub closes_ready : {v : Bool} → c < s.columns → v ≡ is_view (get_or s.column c no_column).kind → v ≡ true → FillingViews t slots' books' c
+    closes_ready h p y =
+        ready_at closable_after.booked closable_after.slots_are (along_in a.beside c h) (sym (looked p) ∙ y)
+
+    pub closes_views : {v : Bool} {u : BatchCoalescer} {slots'' books'' : List ℕ} → c < s.columns → v ≡ is_view (get_or s.column c no_column).kind → v ≡ true → ClosesBlock t slots' books' c u slots'' books'' → ClosesAll s slots books (c + 1) u slots'' books''
+    closes_views h p y k = closes_more h (one_views (looked p) y k)
+
+    pub closes_plain : {v : Bool} → c < s.columns → v ≡ is_view (get_or s.column c no_column).kind → v ≡ false → ClosesAll s slots books (c + 1) t slots' books'
+    closes_plain h p y = closes_more h (one_other (looked p) y)
 
     -- what queue_slot asks
     pub finish_asks : s.queued < s.queue → (Few t) × (t.place ≤ t.queue) × (t.queued < t.queue) × (length books' ≡ books_length t)

@@ -8,23 +8,11 @@ ghost use Rattle.state.specs.Layout.{books_length, tally, next_slot};
 ghost use Rattle.layout.specs.Few.{Few};
 ghost use Rattle.rules.specs.Steps.{with_counts};
 ghost use Rattle.rules.specs.Push.{finished, if_full};
-ghost use Rattle.finishing.specs.Finish.{Closable, ClosesOne, ClosesAll, Finishes};
+ghost use Rattle.finishing.specs.Finish.{Closable, ClosesAll, Finishes};
 
 use counts::RowCount;
 use rules::Step;
 use state::BatchCoalescer;
-
-// The open block of column c joins its list, if it is one of views.
-fn close_one(s: BatchCoalescer, slots: &mut [u8], books: &mut [u8], c: u32) -> BatchCoalescer
-    requires { (Closable s slots.old books.old) × (c < s.columns) }
-    ensures { ClosesOne s slots.old books.old c result slots.new books.new }
-{
-    if layout::is_views(s, c) {
-        open_blocks::finish_current(s, slots, books, c)
-    } else {
-        s
-    }
-}
 
 // The open block of each column of views joins its list.
 fn close_all(s: BatchCoalescer, slots: &mut [u8], books: &mut [u8]) -> BatchCoalescer
@@ -37,7 +25,7 @@ fn close_all(s: BatchCoalescer, slots: &mut [u8], books: &mut [u8]) -> BatchCoal
         if !kinds::is_view(column.kind) {
             continue;
         }
-        t = close_one(t, slots, books, c);
+        t = open_blocks::finish_current(t, slots, books, c);
     }
     t
 }

@@ -1,15 +1,14 @@
 -- What a row shows through the places of the front batch is what reading the row answers.
-use Rattle.std.specs.Prelude.{ℕ, ◌+◌, ◌*◌, ◌<◌, ◌≡◌, refl, Bool, true, false, cond, ltb, eqb}
-use Rattle.std.proofs.Common.{sym, ◌∙◌, ap, true≢false, eq-eqb, ne_eqb, lt-ltb}
+use Rattle.std.specs.Prelude.{ℕ, ◌+◌, ◌*◌, ◌<◌, ◌≡◌, cond, eqb}
+use Rattle.std.proofs.Common.{eq-eqb, ne_eqb, lt-ltb}
 use native.Mathlib.Omega.{arith}
 use Rattle.std.proofs.Math.Decide.{ℕ_discrete}
-use Rattle.state.specs.declared.RowAnswer.{RowAnswer}
 use Rattle.state.specs.World.{World}
-use Rattle.state.specs.Layout.{is_views, width_of, values_place, cell_place, rows_in}
+use Rattle.state.specs.Layout.{is_views, width_of, cell_place, rows_in}
 use Rattle.state.specs.Rows.{listed_at, front_slot}
 use Rattle.rules.specs.Ranges.{tested}
 use Rattle.rules.specs.Calls.{view_answer, value_answer, is_row, read_row}
-use Rattle.fronts.specs.Front.{front_refusal, front_rows, FrontColumn, front_column, view_through, row_through}
+use Rattle.fronts.specs.Front.{front_refusal, front_rows, front_column, view_through, row_through}
 
 -- what the call says where it is not refused
 pub record Fronted (w : World) : Type 0 where

@@ -59,14 +59,11 @@ fn put_columns(s: BatchCoalescer, slots: &[u8], books: &[u8], slot: u32, out: &m
     ensures { out.new ≡ columns_put (world s slots.now [] books.now) out.old s.columns }
 {
     let mut place = layout::values_place(s, slot, 0);
-    let mut c: u32 = 0;
-    while c < s.columns {
-        let at = c as usize;
-        let column = s.column[at];
+    for c in 0..s.columns {
+        let column = s.column[c as usize];
         let count = slot_counts::list_length(s, books, slot, c);
         put_column(column.kind, s.rows, place, count, c, out);
         place += layout::column_size(column.kind, s.rows, s.lists);
-        c += 1;
     }
 }
 

@@ -1,5 +1,4 @@
 -- `completed::drop_lists` meets its contract.
-use Prim.Native.Nat.{◌-◌}
 use borrow.Author.Rules.{rules}
 use Rattle.completed.specs.DropLaws.{droppable_next, lists_none, lists_more, lists_all}
 use Rattle.completed.proofs.drop_lists.Goals as goal

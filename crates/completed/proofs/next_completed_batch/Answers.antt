@@ -7,11 +7,11 @@ use Rattle.completed.proofs.next_completed_batch.Goals as goal
 pub drop_front-requires : goal.drop_front-requires
 drop_front-requires c = search (passed, rules)
 
+pub returns-then-number-ne0 : goal.returns-then-number-ne0
+returns-then-number-ne0 c = search (drop-refused, rules)
+
 pub returns-then-s-gt0 : goal.returns-then-s-gt0
 returns-then-s-gt0 c = search (drop-done, rules)
 
 pub returns-else-s-gt0 : goal.returns-else-s-gt0
 returns-else-s-gt0 c = search (drop-nothing, rules)
-
-pub returns-else-number-eq0 : goal.returns-else-number-eq0
-returns-else-number-eq0 c = search (drop-refused, rules)

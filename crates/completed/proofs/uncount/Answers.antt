@@ -1,5 +1,4 @@
 -- `completed::uncount` meets its contract.
-use Prim.Native.Nat.{◌-◌}
 use borrow.Author.Rules.{rules}
 use Rattle.completed.specs.DropLaws.{counts_none, counts_more, counts_all}
 use Rattle.completed.proofs.uncount.Goals as goal

@@ -1,5 +1,4 @@
 -- `completed::uncount` meets its contract: what its loops keep.
-use Prim.Native.Nat.{◌+◌, ◌≤◌, ◌-◌}
 use mathlib.Core.Path.{◌≡◌}
 use lib.ListN.{length}
 use Rattle.layout.specs.Few.{Few}
@@ -8,7 +7,4 @@ use Rattle.completed.specs.Drop.{counts_off}
 use Rattle.completed.proofs.uncount.Given as goal
 
 abbrev pub invariant-loop-k : goal.invariant-loop-k
-invariant-loop-k l = (l.k ≤ 1 + l.s.columns) × Few l.s × (length l.books ≡ length l.initial.books) × (length l.initial.books ≡ books_length l.s) × (l.books ≡ counts_off l.s l.initial.books l.slot l.k)
-
-abbrev pub decreases-loop-k : goal.decreases-loop-k
-decreases-loop-k l = 1 + l.s.columns - l.k
+invariant-loop-k l = Few l.s × (length l.books ≡ length l.initial.books) × (length l.initial.books ≡ books_length l.s) × (l.books ≡ counts_off l.s l.initial.books l.slot l.k)

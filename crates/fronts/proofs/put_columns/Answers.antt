@@ -1,5 +1,4 @@
 -- `fronts::put_columns` meets its contract.
-use Prim.Native.Nat.{◌-◌}
 use mathlib.Core.Path.{refl}
 use native.Mathlib.Omega.{arith}
 use borrow.Author.Rules.{rules}
@@ -11,10 +10,10 @@ pub values_place-place-requires : goal.values_place-place-requires
 values_place-place-requires c = (search (passed_few, rules), search (passed_slot, rules), omega arith)
 
 pub loop-c-init : goal.loop-c-init
-loop-c-init c = (omega arith, search (columns_none, rules), refl, search rules, search rules)
+loop-c-init c = (search (columns_none, rules), refl, search rules, search rules)
 
-pub bounds-s-at : goal.bounds-s-at
-bounds-s-at c = search (passed_column, rules)
+pub bounds-s-c : goal.bounds-s-c
+bounds-s-c c = search (passed_column, rules)
 
 pub list_length-count-requires : goal.list_length-count-requires
 list_length-count-requires c = search (passed_few, passed_books, rules)
@@ -29,7 +28,7 @@ pub overflow_add-place : goal.overflow_add-place
 overflow_add-place c = search (place-fits, rules)
 
 pub loop-c-preserved : goal.loop-c-preserved
-loop-c-preserved c = (omega arith, columns_more _ _ _ _ _ _ c.requires.1 c.loop-c.invariant.3 c.list_length-count.ensures c.loop-c.invariant.1 c.put_column.ensures, search rules, search (place-more, rules), search rules)
+loop-c-preserved c = (columns_more _ _ _ _ _ _ c.requires.1 c.loop-c.invariant.2 c.list_length-count.ensures c.loop-c.invariant.0 c.put_column.ensures, search rules, search (place-more, rules), search rules)
 
 pub returns : goal.returns
 returns c = search (columns_done, rules)
