@@ -13,13 +13,13 @@ use Rattle.rules.specs.ExitLaws.{batch_two, batch_three, batch-at, batch-none}
 use Rattle.checks.specs.Checked.{fault_at, refused_by, faulty_at}
 
 -- what was answered says whether there is one
-fault-none : (o : Option Fault) {u : Unit {0}} → Ok u ≡ refused_by o → o ≡ none
-fault-none none e = refl
-fault-none (some f) e = absurd (cc)
+fault-none : (o : Option Fault) {u : Unit {0}} → Ok u ≡ refused_by o → o ≡ None
+fault-none None e = refl
+fault-none (Some f) e = absurd (cc)
 
-fault-some : (o : Option Fault) {f : Fault} → Err f ≡ refused_by o → o ≡ some f
-fault-some none e = absurd (cc)
-fault-some (some g) e = ap some (sym (err_same e))
+fault-some : (o : Option Fault) {f : Fault} → Err f ≡ refused_by o → o ≡ Some f
+fault-some None e = absurd (cc)
+fault-some (Some g) e = ap Some (sym (err_same e))
   where
     err_same : {f g : Fault} → ◌≡◌ {A = Result (Unit {0}) Fault} (Err f) (Err g) → f ≡ g
     err_same e = cc

@@ -2,7 +2,7 @@
 use Rattle.std.specs.Prelude.{ℕ, ◌≡◌, ◌≢◌, Bool, true, false, List, [], Result, Ok, Err}
 use Rattle.std.proofs.Math.Path.{refl}
 use Rattle.std.proofs.Common.{sym, ◌∙◌, ap}
-use Rattle.std.proofs.Math.Option.{Option, none, some}
+use Rattle.std.specs.Prelude.{Option, None, Some}
 use Rattle.std.proofs.Math.Decide.{ℕ_discrete}
 use borrow.Author.Tests.{ne_eqb}
 use Rattle.words.specs.WordLaws.{Bytes}
@@ -42,12 +42,12 @@ module _ (s : BatchCoalescer) (slots pool books : List ℕ) {n : ℕ} (e : n ≡
 
 -- what the checks answered
 go_is : (o : Option Fault) {u : Unit {0}} → Ok u ≡ refused_by o → Ok true ≡ of_fault o
-go_is none e = refl
-go_is (some f) e = absurd (cc)
+go_is None e = refl
+go_is (Some f) e = absurd (cc)
 
 number_is : (o : Option Fault) {f : Fault} → Err f ≡ refused_by o → Err f.number ≡ of_fault o
-number_is none e = absurd (cc)
-number_is (some g) {f} e = let q : f ≡ g = cc in rw q
+number_is None e = absurd (cc)
+number_is (Some g) {f} e = let q : f ≡ g = cc in rw q
 
 module _ (s : BatchCoalescer) (slots pool books records body : List ℕ) (rows : ℕ) {n : ℕ} (e : n ≡ tested (world s slots pool books)) where
   pub judge_refused : (n ≡ 0 → ⊥) → Err n ≡ verdict_of (world s slots pool books) (batch rows records body)

@@ -1,6 +1,6 @@
 -- The tests of a push, by cases.
 use Rattle.std.specs.Prelude.{ℕ, ◌≡◌, Bool, true, false, cond, List, eqb, Result, Ok, Err}
-use Rattle.std.proofs.Math.Option.{Option, none, some}
+use Rattle.std.specs.Prelude.{Option, None, Some}
 use Rattle.words.specs.WordLaws.{Bytes}
 use Rattle.state.specs.declared.BatchCoalescer.{BatchCoalescer}
 use Rattle.state.specs.World.{World, world}
@@ -11,8 +11,8 @@ use Rattle.rules.specs.Ranges.{tested}
 
 -- the first fault of a batch refuses it by its number; with none the push goes on
 abbrev pub of_fault : Option Fault → Result Bool ℕ
-of_fault none = Ok true
-of_fault (some f) = Err f.number
+of_fault None = Ok true
+of_fault (Some f) = Err f.number
 
 -- 01: "Order for a push: 1, 14, then step 1, then 2, 3, then per column 4, 5, 6, and 7 by rows."; step 1: "0 rows: done, nothing changes,
 -- before any batch check." Whether there are rows to push, or the number of the refusal

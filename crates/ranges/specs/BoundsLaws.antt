@@ -5,7 +5,6 @@ use Rattle.std.proofs.Common.{sym, ◌∙◌, arith}
 use Rattle.std.proofs.Math.Bool.{true, false, and_assoc, and-true, and-eq-true_iff}
 use borrow.Author.Tests.{leb-true, le-leb, lt-leb, eqb-true}
 use Rattle.search.specs.Every.{every, All, all_more, all_fails, all_done}
-use Rattle.kinds.specs.declared.Width.{Width}
 use Rattle.kinds.specs.Kind.{width_at}
 use Rattle.state.specs.declared.BatchCoalescer.{BatchCoalescer}
 use Rattle.state.specs.World.{column_of, no_column}
@@ -32,7 +31,7 @@ unfoldable pub known : BatchCoalescer → ℕ → Bool
 known s c = is_kind (width_at (column_of s c).kind)
 
 module _ (s : BatchCoalescer) where
-  known_is : (c : ℕ) {w : Width} → w ≡ width_at (get_or s.column c no_column).kind → known s c ≡ is_kind w
+  known_is : (c : ℕ) {w : Option ℕ} → w ≡ width_at (get_or s.column c no_column).kind → known s c ≡ is_kind w
   unfolding known column_of
   known_is c q = ap is_kind (sym q)
 
