@@ -6,8 +6,8 @@ ghost use Rattle.std.specs.Prelude.{◌≡◌};
 ghost use Rattle.rules.specs.Steps.{with_limit};
 ghost use Rattle.rules.specs.Calls.{limit_of, buffered_count, has_completed, is_empty};
 
-use counts::{ByteCount, RowCount};
-use state::BatchCoalescer;
+use counts::RowCount;
+use state::{BatchCoalescer, Limit};
 
 // biggest_coalesce_batch_size, and its setter.
 pub fn biggest_coalesce_batch_size(s: BatchCoalescer) -> Option<RowCount>
@@ -20,21 +20,9 @@ pub fn biggest_coalesce_batch_size(s: BatchCoalescer) -> Option<RowCount>
 pub fn set_biggest_coalesce_batch_size(s: BatchCoalescer, limit: Option<RowCount>) -> BatchCoalescer
     ensures { result ≡ with_limit s limit }
 {
-    let column = s.column;
-    BatchCoalescer {
-        target: RowCount(s.target.0),
-        rows: RowCount(s.rows.0),
-        queue: s.queue,
-        columns: s.columns,
-        lists: s.lists,
-        numbers: s.numbers,
-        pool: ByteCount(s.pool.0),
-        limit,
-        place: s.place,
-        queued: s.queued,
-        buffered: RowCount(s.buffered.0),
-        column,
-    }
+    let mut t = s;
+    t.limit = limit;
+    t
 }
 
 // get_buffered_rows, has_completed_batch, is_empty.
@@ -53,9 +41,5 @@ pub fn has_completed_batch(s: BatchCoalescer) -> bool
 pub fn is_empty(s: BatchCoalescer) -> bool
     ensures { result ≡ is_empty s }
 {
-    if s.buffered.0 == 0 {
-        s.queued == 0
-    } else {
-        false
-    }
+    s.buffered.0 == 0 && s.queued == 0
 }
