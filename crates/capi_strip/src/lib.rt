@@ -10,7 +10,7 @@ ghost use Rattle.capi_strip.specs.StripApi.{strip_said, strip_read, taken_said, 
 pub fn pw_strip_new(strip: &mut [u8]) -> u32
     ensures { told result strip.new ≡ told (new_fault strip.old) (new_leaves strip.old) }
 {
-    outs::new_strip(strip)
+    outs::fault_of(outs::new_strip(strip))
 }
 
 // The front batch read into the strip, and left where it is: the refusal in the upper 32 bits, and the rows read in the lower; in `numbers` one

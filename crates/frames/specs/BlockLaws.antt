@@ -1,12 +1,13 @@
 -- The places of a side and the lines of refused rows, as the code lays them: a law an exit, and three a loop.
-use Rattle.std.specs.Prelude.{ℕ, ◌+◌, ◌-◌, ◌*◌, ◌≤◌, ◌<◌, ◌≡◌, true, take, drop, get_or}
+use Rattle.std.specs.Prelude.{ℕ, ◌+◌, ◌*◌, ◌≤◌, ◌<◌, ◌≡◌, true, take, drop, get_or}
 use Rattle.std.proofs.Common.{◌∙◌, ap, subst, arith, add-one, length-take, lt-ltb, le-ltb, eq-eqb, ne_eqb}
 use mathlib.Core.List.{List, []}
 use Rattle.std.proofs.Math.ListN.{length}
 use Rattle.words.specs.Word.{word32}
+use Rattle.words.specs.Run.{read}
 use Rattle.outs.specs.Coding.{name_in, names_in, strip_of, is_side, last_in}
 use Rattle.outs.specs.SideLaws.{coded-fits, coded_is, coded-count, coded_word, name_read}
-use Rattle.outs.proofs.ReadExits.{name_lent, first_names_lent, second_names_lent, last_of}
+use Rattle.outs.proofs.ReadExits.{first_names_lent, second_names_lent, last_of}
 use Rattle.frames.specs.Text.{text, decimal}
 use Rattle.frames.specs.Frame.{
   line_end,
@@ -29,21 +30,20 @@ use Rattle.frames.specs.Laid.{Laid, laid_none, laid_then, laid_more, laid_three,
 -- ---- the places of a side
 
 module _ (side : List ℕ) (h : is_side side ≡ true) (i : ℕ) where
-  -- name i stands where the code lends it
-  name_is : {n : ℕ} → n ≡ word32 side (4 + 68 * i) → i < word32 side 0 → take (8 + 68 * i + n - (8 + 68 * i)) (drop (8 + 68 * i) side) ≡ get_or (names_in side) i []
+  -- name i, as the code lends it
+  name_is : {m : List ℕ} → m ≡ name_in side i → i < word32 side 0 → m ≡ get_or (names_in side) i []
   name_is e l =
-      name_lent side i e
-      ∙ ap (λ (s : List ℕ). name_in s i) (coded_is side h)
-      ∙ name_read (names_in side) (coded-fits side h) i (omega (arith, coded-count side h))
+      e ∙ ap (λ (s : List ℕ). name_in s i) (coded_is side h) ∙ name_read (names_in side) (coded-fits side h) i (omega (arith, coded-count side h))
 
   -- and is short enough
-  pub name_short : {c n : ℕ} → c ≡ word32 side 0 → i < c → n ≡ word32 side (4 + 68 * i) → length (take (8 + 68 * i + n - (8 + 68 * i)) (drop (8 + 68 * i) side)) ≤ 64
-  name_short e l f = simp length-take (omega (arith, coded_word side h i (omega arith)))
+  pub name_short : {c : ℕ} {m : List ℕ} → c ≡ word32 side 0 → i < c → m ≡ name_in side i → length m ≤ 64
+  unfolding name_in read
+  name_short e l f = rw f (simp length-take (omega (arith, coded_word side h i (omega arith))))
 
   -- the exits of `put_place`
-  pub place-taken : (s : List ℕ) {c n at r : ℕ} {t : List ℕ} → c ≡ word32 side 0 → i < c → n ≡ word32 side (4 + 68 * i) → Laid 78 at (player_text i (take (8 + 68 * i + n - (8 + 68 * i)) (drop (8 + 68 * i) side))) s t r → Laid 78 at (place_text (names_in side) i) s t r
+  pub place-taken : (s : List ℕ) {c at r : ℕ} {m t : List ℕ} → c ≡ word32 side 0 → i < c → m ≡ name_in side i → Laid 78 at (player_text i m) s t r → Laid 78 at (place_text (names_in side) i) s t r
   unfolding place_text
-  place-taken s {c} {n} {at} {r} {t} e l f p =
+  place-taken s {c} {at} {r} {m} {t} e l f p =
       let k : i < length (names_in side) = omega (arith, coded-count side h) in
       rw (lt-ltb i (length (names_in side)) k) (subst (λ (name : List ℕ). Laid 78 at (player_text i name) s t r) (name_is f (omega arith)) p)
 

@@ -1,6 +1,7 @@
 -- What bytes show: the exits of the test of one byte, a name shown byte by byte.
 use Rattle.std.specs.Prelude.{ℕ, suc, ◌+◌, ◌-◌, ◌≤◌, ◌<◌, ◌≡◌, refl, List, [], ◌∷◌, length, take, drop, get_or, set}
 use Rattle.std.proofs.Common.{sym, ◌∙◌, ap, arith, add-one, drop-cons, lt-ltb, le-ltb, le-leb, eq-eqb, ne_eqb}
+use mathlib.Core.Logic.{◌⊎◌, inl, inr}
 use Rattle.std.proofs.lemmas.Bool.{lt-leb}
 use borrow.Rule.Slice.PartMut.{put_mid}
 use Rattle.words.specs.Run.{put}
@@ -39,6 +40,11 @@ shown_alone p b h k l = rw (le-ltb b 32 (omega arith), ne_eqb b 127 (λ e. omega
 pub shown-coded : (p b : ℕ) → 128 ≤ b → b ≤ 159 → 128 ≤ p → p ≡ 194 → 63 ≡ shown p b
 unfolding shown is_control
 shown-coded p b h k l e = rw (le-ltb b 32 (omega arith), ne_eqb b 127 (λ q. omega arith), le-leb 128 b h, le-leb b 159 k, le-ltb p 128 l, eq-eqb p 194 e)
+
+-- both
+pub shown_hidden : (p b : ℕ) → 128 ≤ b → b ≤ 159 → (p < 128) ⊎ ((128 ≤ p) × (p ≡ 194)) → 63 ≡ shown p b
+shown_hidden p b h k (inl l) = shown_alone p b h k l
+shown_hidden p b h k (inr (l, e)) = shown-coded p b h k l e
 
 -- the rest of a letter
 pub shown_rest : (p b : ℕ) → 128 ≤ b → b ≤ 159 → 128 ≤ p → (p ≡ 194 → ⊥) → b ≡ shown p b

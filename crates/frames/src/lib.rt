@@ -20,20 +20,10 @@ pub const ROW_TEXT: usize = 129;
 fn shown(before: u8, b: u8) -> u8
     ensures { result ≡ shownBehind before b }
 {
-    if b < 32 {
-        b'?'
-    } else if b < 127 {
-        b
-    } else if b < 128 {
-        b'?'
-    } else if 159 < b {
-        b
-    } else if before < 128 {
-        b'?'
-    } else if before == 194 {
-        b'?'
-    } else {
-        b
+    match b {
+        0..=31 | 127 => b'?',
+        128..=159 if before < 128 || before == 194 => b'?',
+        _ => b,
     }
 }
 
@@ -43,13 +33,9 @@ fn show_into(part: &mut [u8], name: &[u8])
     ensures { part.new ≡ put 0 (shown_name name.now) part.old }
 {
     let mut before: u8 = b' ';
-    let mut i: usize = 0;
-    while i < name.len() {
-        let raw = name[i];
-        let b = shown(before, raw);
-        part[i] = b;
-        before = b;
-        i += 1;
+    for (i, raw) in name.iter().enumerate() {
+        before = shown(before, *raw);
+        part[i] = before;
     }
 }
 
@@ -99,12 +85,9 @@ fn put_last(out: &mut [u8], at: usize, strip: &[u8]) -> usize
     requires { (12 ≤ length strip.now) × (at + 20 ≤ length out.old) }
     ensures { Laid 20 at (last_text (last_in strip.now)) out.old out.new result }
 {
-    if words::get32(strip, 0) == 0 {
-        put_text(out, at, b"none")
-    } else {
-        let low = words::get32(strip, 4);
-        let high = words::get32(strip, 8);
-        put_number(out, at, (low as u64) + (high as u64) * 4294967296)
+    match outs::last_number(strip) {
+        None => put_text(out, at, b"none"),
+        Some(number) => put_number(out, at, number),
     }
 }
 
@@ -161,10 +144,7 @@ fn put_place(out: &mut [u8], at: usize, side: &[u8], i: usize) -> usize
 {
     let count = words::get32(side, 0) as usize;
     if i < count {
-        let n = words::get32(side, 4 + 68 * i) as usize;
-        let from = 8 + 68 * i;
-        let end = from + n;
-        put_player(out, at, i, &side[from..end])
+        put_player(out, at, i, outs::name_at(side, i))
     } else {
         put_text(out, at, b"             -\n")
     }
@@ -176,10 +156,8 @@ fn put_places(out: &mut [u8], at: usize, side: &[u8]) -> usize
     ensures { Laid 546 at (places_text (names_in side.now) 7) out.old out.new result }
 {
     let mut place = at;
-    let mut i: usize = 0;
-    while i < 7 {
+    for i in 0..7 {
         place = put_place(out, place, side, i);
-        i += 1;
     }
     place
 }
@@ -218,22 +196,17 @@ fn put_which(out: &mut [u8], at: usize, i: usize, rows: usize) -> usize
 }
 
 // What a number says.
-fn put_reason(out: &mut [u8], at: usize, number: u8) -> usize
-    requires { at + 48 ≤ length out.old }
-    ensures { Laid 48 at (reason_text number) out.old out.new result }
+fn reason(number: u8) -> &'static [u8]
+    ensures text { result.now ≡ reason_text number }
+    ensures within { length result.now ≤ 48 }
 {
-    if number == 31 {
-        put_text(out, at, b"side, event, number or name null or out of range")
-    } else if number == 32 {
-        put_text(out, at, b"row number not above the last accepted row's")
-    } else if number == 33 {
-        put_text(out, at, b"an eighth out")
-    } else if number == 34 {
-        put_text(out, at, b"revive with nobody out")
-    } else if number == 35 {
-        put_text(out, at, b"a name already out on that side")
-    } else {
-        put_text(out, at, b"not accepted")
+    match number {
+        31 => b"side, event, number or name null or out of range",
+        32 => b"row number not above the last accepted row's",
+        33 => b"an eighth out",
+        34 => b"revive with nobody out",
+        35 => b"a name already out on that side",
+        _ => b"not accepted",
     }
 }
 
@@ -245,7 +218,7 @@ fn put_why(out: &mut [u8], at: usize, number: u8) -> usize
     let a = put_text(out, at, b" refused, ");
     let b = put_number(out, a, number as u64);
     let c = put_text(out, b, b": ");
-    let d = put_reason(out, c, number);
+    let d = put_text(out, c, reason(number));
     put_text(out, d, b"\n")
 }
 
@@ -269,10 +242,8 @@ fn put_rows(out: &mut [u8], at: usize, numbers: &[u8]) -> usize
     ensures { Laid (129 * length numbers.now) at (rows_text numbers.now (length numbers.now)) out.old out.new result }
 {
     let mut place = at;
-    let mut i: usize = 0;
-    while i < numbers.len() {
+    for i in 0..numbers.len() {
         place = put_row(out, place, numbers, i);
-        i += 1;
     }
     place
 }
@@ -283,11 +254,7 @@ fn put_rows(out: &mut [u8], at: usize, numbers: &[u8]) -> usize
 fn has_room(size: usize, rows: usize) -> bool
     ensures { result ≡ has_room size rows }
 {
-    if STRIP_TEXT <= size {
-        rows <= (size - STRIP_TEXT) / ROW_TEXT
-    } else {
-        false
-    }
+    STRIP_TEXT <= size && rows <= (size - STRIP_TEXT) / ROW_TEXT
 }
 
 // The frame of a strip at the front of `out`: how many rows wait, and the number of each row of the batch; how many bytes it has. Where the bytes
@@ -296,11 +263,12 @@ pub fn frame(strip: &[u8], waiting: u32, numbers: &[u8], out: &mut [u8]) -> usiz
     ensures { (result ≡ frame_answer strip.now waiting numbers.now out.old) × (out.new ≡ frame_leaves strip.now waiting numbers.now out.old) }
 {
     if has_room(out.len(), numbers.len()) {
-        if outs::strip_fault(strip) == 0 {
-            let a = put_strip(out, strip, waiting);
-            put_rows(out, a, numbers)
-        } else {
-            0
+        match outs::strip_fault(strip) {
+            Ok(()) => {
+                let a = put_strip(out, strip, waiting);
+                put_rows(out, a, numbers)
+            }
+            Err(_) => 0,
         }
     } else {
         0

@@ -2,6 +2,7 @@
 pub mod OutsLaws
 pub mod ReadExits
 pub mod TakeExits
+pub mod EventExits
 pub mod CallerLaws
 pub mod TwiceLaws
 pub mod KeepLaws

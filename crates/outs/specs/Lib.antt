@@ -5,6 +5,9 @@ pub mod TwiceLaws
 pub mod NumberLaws
 pub mod Coding
 pub mod Steps
+pub mod Seen
+pub mod Answers
+pub mod AnswersLaws
 pub mod PieceLaws
 pub mod SideLaws
 pub mod CodingLaws

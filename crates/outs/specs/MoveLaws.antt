@@ -1,11 +1,12 @@
 -- A side's bytes after a name went out, or came back.
 use Prim.Native.Nat.{ℕ, suc, ◌+◌, ◌-◌, ◌*◌, ◌≤◌, ◌<◌}
-use Rattle.std.specs.Prelude.{◌≡◌, refl, true, get_or, set}
+use Rattle.std.specs.Prelude.{◌≡◌, refl, true}
 use Rattle.std.proofs.Math.Path.{sym, ap}
-use Rattle.std.proofs.Common.{◌∙◌, arith, add-one, length-drop, length-take, take-append-drop, drop_of_length-le, drop-cons, take-suc, get_or-append-add, get_or-drop, take_at}
+use Rattle.std.proofs.Common.{◌∙◌, arith, length-drop, length-take, drop_of_length-le, take_at}
 use mathlib.Core.List.{List, [], ◌∷◌, ◌++◌, append_assoc, append-nil}
 use Rattle.std.proofs.Math.ListN.{length, take, drop, length-append}
-use Rattle.std.proofs.lemmas.List.{length-replicate, set_at}
+use Rattle.std.proofs.lemmas.List.{length-replicate}
+use Rattle.std.specs.List.{copy_within}
 use borrow.Rule.Slice.PartMut.{put_mid}
 use Rattle.words.specs.Word.{word32, with_word32}
 use Rattle.words.specs.Run.{read, put}
@@ -13,60 +14,20 @@ use Rattle.words.specs.WordLaws.{length-with_word32}
 use Rattle.words.specs.RunLaws.{length-read}
 use Rattle.outs.specs.Outs.{is_name}
 use Rattle.outs.specs.Coding.{zeros, side_bytes, word_bytes, name_code, names_code, side_code, names_in, is_side}
-use Rattle.outs.specs.Steps.{moved}
 use Rattle.outs.specs.PieceLaws.{read_at, put-at, length_word, word_put, zeros_add}
 use Rattle.outs.specs.SideLaws.{name_high, names_append, names_rest, names_first, name_pieces, length_name, names_code_cons, names_code-append, names_code_one, length_names, SideFits, side_pieces, length_side, coded-fits, coded_is, coded-count, coded-length}
 
--- ---- the names moved down: the loop
+-- ---- the names moved down
 
-pub moved_none : (s : List ℕ) → s ≡ moved s 0
-unfolding moved read
-moved_none s = sym (take-append-drop 4 s)
+-- the names behind the first, one place down: 408 bytes from 72 on moved to 4 on
+abbrev moved : List ℕ → List ℕ
+moved s = take 4 s ++ (read 72 408 s ++ drop 412 s)
 
-front : (s : List ℕ) (i : ℕ) → length s ≡ side_bytes → i ≤ 408 → length (take 4 s ++ read 72 i s) ≡ 4 + i
-front s i h k = length-append (take 4 s) (read 72 i s) ∙ omega (arith, length-take 4 s, length-read 72 i s (omega arith))
-
--- the byte that is moved stands as it did
-moved-byte : (s : List ℕ) (i : ℕ) → length s ≡ side_bytes → i < 408 → get_or (moved s i) (72 + i) 0 ≡ get_or s (72 + i) 0
-unfolding moved
-moved-byte s i h k =
-    let f : length (take 4 s ++ read 72 i s) ≡ 4 + i = front s i h (omega arith) in
-    let e : 72 + i ≡ length (take 4 s ++ read 72 i s) + 68 = omega arith in
-    let g : 4 + i + 68 ≡ 72 + i = omega arith in
-    ap (λ (l : List ℕ). get_or l (72 + i) 0) (sym (append_assoc (take 4 s) (read 72 i s) (drop (4 + i) s)))
-    ∙ ap (λ (j : ℕ). get_or ((take 4 s ++ read 72 i s) ++ drop (4 + i) s) j 0) e
-    ∙ get_or-append-add (take 4 s ++ read 72 i s) (drop (4 + i) s) 68 0
-    ∙ get_or-drop (4 + i) s 68 0
-    ∙ ap (λ (j : ℕ). get_or s j 0) g
-
-one_byte : (s : List ℕ) (i : ℕ) → 72 + i < length s → read 72 (suc i) s ≡ read 72 i s ++ (get_or s (72 + i) 0 ∷ [])
+moved_is : (s : List ℕ) {u : List ℕ} → u ≡ copy_within s 72 480 4 → u ≡ moved s
 unfolding read
-one_byte s i h = take-suc (drop 72 s) i 0 (rw length-drop (omega arith)) ∙ ap (λ (x : ℕ). take i (drop 72 s) ++ (x ∷ [])) (get_or-drop 72 s i 0)
+moved_is s e = e ∙ append_assoc (take 4 s) (take 408 (drop 72 s)) (drop 412 s)
 
-moved-set : (s : List ℕ) (i x : ℕ) → length s ≡ side_bytes → i < 408 → set (moved s i) (4 + i) x ≡ take 4 s ++ (read 72 i s ++ (x ∷ drop (suc (4 + i)) s))
-unfolding moved
-moved-set s i x h k =
-    ap (λ (l : List ℕ). set l (4 + i) x) (sym (append_assoc (take 4 s) (read 72 i s) (drop (4 + i) s)) ∙ ap (λ (l : List ℕ). (take 4 s ++ read 72 i s) ++ l) (drop-cons s (4 + i) 0 (omega arith)))
-    ∙ set_at (take 4 s ++ read 72 i s) (get_or s (4 + i) 0) (drop (suc (4 + i)) s) x (4 + i) (front s i h (omega arith))
-    ∙ append_assoc (take 4 s) (read 72 i s) (x ∷ drop (suc (4 + i)) s)
-
-pub moved_more : (s : List ℕ) {t : List ℕ} (i : ℕ) → length s ≡ side_bytes → t ≡ moved s i → i < 408 → set t (4 + i) (get_or t (72 + i) 0) ≡ moved s (i + 1)
-unfolding moved
-moved_more s {t} i h e k =
-    let p : 4 + (i + 1) ≡ suc (4 + i) = omega arith in
-    ap (λ (l : List ℕ). set l (4 + i) (get_or l (72 + i) 0)) e
-    ∙ ap (set (moved s i) (4 + i)) (moved-byte s i h k)
-    ∙ moved-set s i (get_or s (72 + i) 0) h k
-    ∙ ap (λ (l : List ℕ). take 4 s ++ l) (sym (append_assoc (read 72 i s) (get_or s (72 + i) 0 ∷ []) (drop (suc (4 + i)) s)))
-    ∙ ap (λ (l : List ℕ). take 4 s ++ (l ++ drop (suc (4 + i)) s)) (sym (one_byte s i (omega arith)))
-    ∙ ap (λ (n : ℕ). take 4 s ++ (read 72 n s ++ drop (suc (4 + i)) s)) (sym (add-one i))
-    ∙ ap (λ (n : ℕ). take 4 s ++ (read 72 (i + 1) s ++ drop n s)) (sym p)
-
-pub moved_all : (s : List ℕ) {t : List ℕ} (i : ℕ) → t ≡ moved s i → i ≤ 408 → 408 ≤ i → t ≡ moved s 408
-moved_all s i e a b = let q : i ≡ 408 = omega arith in e ∙ ap (moved s) q
-
-length_moved : (s : List ℕ) → length s ≡ side_bytes → length (moved s 408) ≡ side_bytes
-unfolding moved
+length_moved : (s : List ℕ) → length s ≡ side_bytes → length (moved s) ≡ side_bytes
 length_moved s h =
     length-append (take 4 s) (read 72 408 s ++ drop 412 s)
     ∙ omega (arith, length-take 4 s, length-append (read 72 408 s) (drop 412 s), length-read 72 408 s (omega arith), length-drop 412 s)
@@ -111,8 +72,7 @@ module _ (x : List ℕ) (l : List (List ℕ)) (f : SideFits (x ∷ l)) where
       ap (read 72 408) (sym (append_assoc (word_bytes (length l)) (name_code x) (names_code l ++ zeros (476 - 68 * suc (length l)))) ∙ ap (λ (r : List ℕ). (word_bytes (length l) ++ name_code x) ++ r) (sym (append-nil (names_code l ++ zeros (476 - 68 * suc (length l))))))
       ∙ read_at (word_bytes (length l) ++ name_code x) (names_code l ++ zeros (476 - 68 * suc (length l))) [] 72 (length-append (word_bytes (length l)) (name_code x) ∙ omega (arith, length_word (length l), length_name x (name_high x (names_first x l f.named)))) 408 length-behind
 
-  back-code : {t u : List ℕ} → t ≡ with_word32 (side_code (x ∷ l)) 0 (length l) → u ≡ moved t 408 → take 412 u ++ zeros 68 ≡ side_code l
-  unfolding moved
+  back-code : {t u : List ℕ} → t ≡ with_word32 (side_code (x ∷ l)) 0 (length l) → u ≡ moved t → take 412 u ++ zeros 68 ≡ side_code l
   back-code {t} {u} e q =
       let p : t ≡ word_bytes (length l) ++ (name_code x ++ (names_code l ++ zeros (476 - 68 * suc (length l)))) = e ∙ counted in
       let a : take 4 t ≡ word_bytes (length l) = ap (take 4) p ∙ front_word (name_code x ++ (names_code l ++ zeros (476 - 68 * suc (length l)))) in
@@ -133,14 +93,14 @@ back_part u w h e =
     ap (λ (r : List ℕ). take 412 u ++ (w ++ r)) b
     ∙ ap (λ (r : List ℕ). take 412 u ++ r) (append-nil w ∙ e ∙ ap zeros a)
 
-pub came_back : (side : List ℕ) {n : ℕ} {t u w : List ℕ} → is_side side ≡ true → n ≡ word32 side 0 → 1 ≤ word32 side 0 → t ≡ with_word32 side 0 (n - 1) → u ≡ moved t 408 → w ≡ zeros (length (take (length u - 412) (drop 412 u))) → put_mid 412 (length u - 412) u w ≡ side_code (drop 1 (names_in side))
-came_back side {n} {t} {u} {w} h c k e q z = back_part u w (ap length q ∙ length_moved t (ap length e ∙ length-with_word32 side 0 (n - 1) ∙ coded-length side h)) z ∙ go (names_in side) (coded_is side h) (coded-fits side h) (c ∙ coded-count side h) e
+pub came_back : (side : List ℕ) {n : ℕ} {t u w : List ℕ} → is_side side ≡ true → n ≡ word32 side 0 → 1 ≤ word32 side 0 → t ≡ with_word32 side 0 (n - 1) → u ≡ copy_within t 72 480 4 → w ≡ zeros (length (take (length u - 412) (drop 412 u))) → put_mid 412 (length u - 412) u w ≡ side_code (drop 1 (names_in side))
+came_back side {n} {t} {u} {w} h c k e q z = back_part u w (ap length (moved_is t q) ∙ length_moved t (ap length e ∙ length-with_word32 side 0 (n - 1) ∙ coded-length side h)) z ∙ go (names_in side) (coded_is side h) (coded-fits side h) (c ∙ coded-count side h) e
   where
     go : (l : List (List ℕ)) → side ≡ side_code l → SideFits l → n ≡ length l → t ≡ with_word32 side 0 (n - 1) → take 412 u ++ zeros 68 ≡ side_code (drop 1 l)
     go [] p f j e = absurd (omega arith)
     go (x ∷ l) p f j e =
         let i : n - 1 ≡ length l = omega arith in
-        back-code x l f (e ∙ ap (λ (s : List ℕ). with_word32 s 0 (n - 1)) p ∙ ap (with_word32 (side_code (x ∷ l)) 0) i) q
+        back-code x l f (e ∙ ap (λ (s : List ℕ). with_word32 s 0 (n - 1)) p ∙ ap (with_word32 (side_code (x ∷ l)) 0) i) (moved_is t q)
 
 -- ---- a name goes out
 

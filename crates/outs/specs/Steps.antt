@@ -1,5 +1,5 @@
 -- What the functions inside promise. Nobody above has to believe these: the laws tie each to the coding.
-use Rattle.std.specs.Prelude.{ℕ, ◌+◌, ◌-◌, ◌*◌, Bool, cond, ◌&&◌, List, ◌++◌, eqb, leb, length, get_or, take, drop}
+use Rattle.std.specs.Prelude.{ℕ, ◌+◌, ◌-◌, ◌*◌, Bool, cond, ◌&&◌, List, eqb, leb, length, get_or}
 use Rattle.search.specs.Every.{every}
 use Rattle.words.specs.Word.{word32}
 use Rattle.words.specs.Run.{read}
@@ -21,7 +21,3 @@ is_name_at side i =
 -- the test of the last number: no row accepted and zeros, or 1
 unfoldable pub is_last : List ℕ → Bool
 is_last b = cond (eqb (word32 b 0) 0) (is_zero (read 4 8 b)) (eqb (word32 b 0) 1)
-
--- a side with i bytes from 72 on moved to 4 on: the names behind the first, one place down
-unfoldable pub moved : List ℕ → ℕ → List ℕ
-moved s i = take 4 s ++ (read 72 i s ++ drop (4 + i) s)

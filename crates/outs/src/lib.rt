@@ -1,16 +1,24 @@
 // The player strip of 02, K6, in lent bytes: who is out on each side, the one out longest first. It knows no coalescer.
 #![tactic(auto)]
 
-ghost use Rattle.std.specs.Prelude.{◌≡◌, true, [], ◌∷◌, ◌++◌, ◌+◌, ◌*◌, ◌≤◌, ◌<◌, length, drop};
-ghost use Rattle.std.specs.Prelude.{Some};
-ghost use Rattle.search.specs.Table.{same};
+ghost use Rattle.std.specs.Prelude.{◌≡◌, true, false, [], ◌∷◌, ◌++◌, ◌+◌, ◌*◌, ◌≤◌, ◌<◌, length, drop, MatchOption};
+ghost use Rattle.std.proofs.Math.Option.{none, some};
 ghost use Rattle.words.specs.Word.{word32};
-ghost use Rattle.outs.specs.Outs.{among, is_above, refusal_on, refusal_for, changed, accepted, is_name, in_range, what_of, event_of, given_number, given_took};
-ghost use Rattle.outs.specs.Coding.{zeros, strip_bytes, side_bytes, side_code, last_code, code_of, name_in, names_in, last_in, strip_of, is_side, is_strip, strip_fault, new_fault, new_leaves, event_answer, event_leaves};
-ghost use Rattle.outs.specs.Steps.{is_zero, is_name_at, is_last, moved};
+ghost use Rattle.outs.specs.Outs.{among, is_above, refusal_on, refusal_for, changed, accepted, is_name, in_range, side_of, what_of, event_of, given_number, given_took};
+ghost use Rattle.outs.specs.Coding.{strip_bytes, side_bytes, side_code, last_code, code_of, name_in, names_in, last_in, strip_of, is_side, is_strip, strip_fault, new_fault, new_leaves, event_answer, event_leaves};
+ghost use Rattle.outs.specs.Steps.{is_zero, is_name_at, is_last};
+ghost use Rattle.outs.specs.Seen.{seen_side, start_of, seen_what, seen, named};
+ghost use Rattle.outs.specs.Answers.{fault_of, refusal_of, not_taken};
+
+mod refusals;
+
+pub use refusals::{NotTaken, Refusal, StripFault, fault_of, refusal_of};
 
 // The bytes of a strip.
 pub const STRIP_BYTES: usize = 972;
+
+// The bytes of a side of it.
+const SIDE_BYTES: usize = 480;
 
 // ---- tests of bytes
 
@@ -18,34 +26,7 @@ pub const STRIP_BYTES: usize = 972;
 fn is_zero(part: &[u8]) -> bool
     ensures { result ≡ is_zero part.now }
 {
-    let mut i: usize = 0;
-    while i < part.len() {
-        if part[i] == 0 {
-            i += 1;
-        } else {
-            return false;
-        }
-    }
-    true
-}
-
-// Whether two names are the same: as long, and every byte.
-fn is_same(a: &[u8], b: &[u8]) -> bool
-    ensures { result ≡ same a.now b.now }
-{
-    if a.len() == b.len() {
-        let mut i: usize = 0;
-        while i < a.len() {
-            if a[i] == b[i] {
-                i += 1;
-            } else {
-                return false;
-            }
-        }
-        true
-    } else {
-        false
-    }
+    part.iter().all(|b| *b == 0)
 }
 
 // ---- bytes that code a strip
@@ -56,17 +37,7 @@ fn is_name_at(side: &[u8], i: usize) -> bool
     ensures { result ≡ is_name_at side.now i }
 {
     let n = words::get32(side, 4 + 68 * i) as usize;
-    if 1 <= n {
-        if n <= 64 {
-            let from = 8 + 68 * i + n;
-            let end = 72 + 68 * i;
-            is_zero(&side[from..end])
-        } else {
-            false
-        }
-    } else {
-        false
-    }
+    1 <= n && n <= 64 && is_zero(&side[8 + 68 * i + n..72 + 68 * i])
 }
 
 // Whether 480 bytes code a side.
@@ -76,11 +47,8 @@ fn is_side(side: &[u8]) -> bool
 {
     let count = words::get32(side, 0) as usize;
     if count <= 7 {
-        let mut i: usize = 0;
-        while i < count {
-            if is_name_at(side, i) {
-                i += 1;
-            } else {
+        for i in 0..count {
+            if !is_name_at(side, i) {
                 return false;
             }
         }
@@ -109,54 +77,109 @@ fn is_strip(strip: &[u8]) -> bool
     requires { length strip.now ≡ strip_bytes }
     ensures { result ≡ is_strip strip.now }
 {
-    if is_last(strip) {
-        if is_side(&strip[12..492]) {
-            is_side(&strip[492..972])
-        } else {
-            false
-        }
-    } else {
-        false
-    }
+    is_last(strip) && is_side(&strip[12..492]) && is_side(&strip[492..972])
 }
 
-// 0 where the bytes code a strip; 1 where there are other than 972; else 14.
-pub fn strip_fault(strip: &[u8]) -> u32
-    ensures { result ≡ strip_fault strip.now }
+// Whether the bytes code a strip: else there are other than 972, or what they hold codes none.
+pub fn strip_fault(strip: &[u8]) -> Result<(), StripFault>
+    ensures { fault_of result ≡ strip_fault strip.now }
 {
     if strip.len() == STRIP_BYTES {
-        if is_strip(strip) { 0 } else { 14 }
+        if is_strip(strip) {
+            Ok(())
+        } else {
+            Err(StripFault::NoCode)
+        }
     } else {
-        1
+        Err(StripFault::Length)
     }
 }
 
 // ---- a new strip
 
-// Zeros for every byte of a lent part.
-fn clear(part: &mut [u8])
-    ensures { part.new ≡ zeros (length part.old) }
-{
-    let mut i: usize = 0;
-    while i < part.len() {
-        part[i] = 0;
-        i += 1;
-    }
-}
-
-// The strip before any row, where there are 972 bytes for it; else 1, and nothing changed.
-pub fn new_strip(strip: &mut [u8]) -> u32
-    ensures { (result ≡ new_fault strip.old) × (strip.new ≡ new_leaves strip.old) }
+// The strip before any row, where there are 972 bytes for it; else nothing changed.
+pub fn new_strip(strip: &mut [u8]) -> Result<(), StripFault>
+    ensures { (fault_of result ≡ new_fault strip.old) × (strip.new ≡ new_leaves strip.old) }
 {
     if strip.len() == STRIP_BYTES {
-        clear(strip);
-        0
+        strip.fill(0);
+        Ok(())
     } else {
-        1
+        Err(StripFault::Length)
     }
 }
 
-// ---- which number refuses an event
+// ---- an event
+
+// A side.
+#[derive(Clone, Copy)]
+enum Side {
+    One,
+    Two,
+}
+
+impl Side {
+    // The side of a number in range: 1 or 2.
+    fn of(number: u8) -> Side
+        ensures { seen_side result ≡ side_of number }
+    {
+        if number == 1 { Side::One } else { Side::Two }
+    }
+
+    // Where its bytes stand in a strip.
+    fn start(self) -> usize
+        ensures at { result ≡ start_of self }
+        ensures within { result ≤ 492 }
+    {
+        match self {
+            Side::One => 12,
+            Side::Two => 492,
+        }
+    }
+}
+
+// What happens: a player of this name goes out, or the one who has been out longest comes back.
+#[derive(Clone, Copy)]
+enum What<'a> {
+    Out(&'a [u8]),
+    Revive,
+}
+
+impl<'a> What<'a> {
+    // What a number in range says: 1 out, 2 revive.
+    fn of(event: u8, name: &'a [u8]) -> What<'a>
+        ensures { seen_what result ≡ what_of event name.now }
+    {
+        if event == 1 {
+            What::Out(name)
+        } else {
+            What::Revive
+        }
+    }
+}
+
+// An event: a row's number, its side, and what happens.
+#[derive(Clone, Copy)]
+struct Event<'a> {
+    number: u64,
+    side: Side,
+    what: What<'a>,
+}
+
+impl<'a> Event<'a> {
+    // The event of a row's four values, where they are in range.
+    fn of(number: u64, side: u8, event: u8, name: &'a [u8]) -> Option<Event<'a>>
+        ensures { MatchOption result (in_range side event name.now ≡ false) (λ e. (in_range side event name.now ≡ true) × (seen e ≡ event_of number side event name.now)) }
+    {
+        if in_range(side, event, name) {
+            let side = Side::of(side);
+            let what = What::of(event, name);
+            Some(Event { number, side, what })
+        } else {
+            None
+        }
+    }
+}
 
 // Whether side, event and name are in range.
 fn in_range(side: u8, event: u8, name: &[u8]) -> bool
@@ -166,29 +189,42 @@ fn in_range(side: u8, event: u8, name: &[u8]) -> bool
     known & ((1 <= name.len()) & (name.len() <= 64))
 }
 
+// ---- what refuses an event
+
+// The last accepted number, where there is one.
+pub fn last_number(strip: &[u8]) -> Option<u64>
+    requires { 12 ≤ length strip.now }
+    ensures { MatchOption result (last_in strip.now ≡ none) (λ n. last_in strip.now ≡ some n) }
+{
+    if words::get32(strip, 0) == 0 {
+        None
+    } else {
+        let low = words::get32(strip, 4);
+        let high = words::get32(strip, 8);
+        Some((low as u64) + (high as u64) * 4294967296)
+    }
+}
+
 // Whether a number is above the last accepted one.
 fn is_above(strip: &[u8], number: u64) -> bool
     requires { length strip.now ≡ strip_bytes }
     ensures { result ≡ is_above (last_in strip.now) number }
 {
-    if words::get32(strip, 0) == 0 {
-        true
-    } else {
-        let low = words::get32(strip, 4);
-        let high = words::get32(strip, 8);
-        (low as u64) + (high as u64) * 4294967296 < number
+    match last_number(strip) {
+        None => true,
+        Some(last) => last < number,
     }
 }
 
-// Whether place i of a side holds this name.
-fn is_out_at(side: &[u8], i: usize, name: &[u8]) -> bool
-    requires { (length side.now ≡ side_bytes) × (i < 7) × (word32 side.now (4 + 68 * i) ≤ 64) }
-    ensures { result ≡ same name.now (name_in side.now i) }
+// The name at place i of a side.
+pub fn name_at(side: &[u8], i: usize) -> &[u8]
+    requires { (is_side side.now ≡ true) × (i < word32 side.now 0) }
+    ensures { result.now ≡ name_in side.now i }
 {
     let n = words::get32(side, 4 + 68 * i) as usize;
     let from = 8 + 68 * i;
     let end = from + n;
-    is_same(name, &side[from..end])
+    &side[from..end]
 }
 
 // Whether a name is out on a side.
@@ -197,47 +233,54 @@ fn is_out(side: &[u8], name: &[u8]) -> bool
     ensures { result ≡ among name.now (names_in side.now) }
 {
     let count = words::get32(side, 0) as usize;
-    let mut i: usize = 0;
-    while i < count {
-        if is_out_at(side, i, name) {
+    for i in 0..count {
+        if name == name_at(side, i) {
             return true;
-        } else {
-            i += 1;
         }
     }
     false
 }
 
-// 33, 34, 35, or 0: what a side says of an event.
-fn side_refusal(side: &[u8], event: u8, name: &[u8]) -> u32
+// What a side says of an event.
+fn side_refusal(side: &[u8], what: What<'_>) -> Result<(), Refusal>
     requires { (length side.now ≡ side_bytes) × (is_side side.now ≡ true) }
-    ensures { result ≡ refusal_on (names_in side.now) (what_of event name.now) }
+    ensures { refusal_of result ≡ refusal_on (names_in side.now) (seen_what what.entry) }
 {
     let count = words::get32(side, 0);
-    if event == 1 {
-        if count < 7 {
-            if is_out(side, name) { 35 } else { 0 }
-        } else {
-            33
+    match what {
+        What::Out(name) => {
+            if count < 7 {
+                if is_out(side, name) {
+                    Err(Refusal::OutAlready)
+                } else {
+                    Ok(())
+                }
+            } else {
+                Err(Refusal::EighthOut)
+            }
         }
-    } else {
-        if count == 0 { 34 } else { 0 }
+        What::Revive => {
+            if count == 0 {
+                Err(Refusal::NobodyOut)
+            } else {
+                Ok(())
+            }
+        }
     }
 }
 
-// 32 to 35, or 0: the number of an event that is in range.
-fn refusal_for(strip: &[u8], number: u64, side: u8, event: u8, name: &[u8]) -> u32
+// What the strip says of an event.
+fn refusal_for(strip: &[u8], event: Event<'_>) -> Result<(), Refusal>
     requires { (length strip.now ≡ strip_bytes) × (is_strip strip.now ≡ true) }
-    ensures { result ≡ refusal_for (strip_of strip.now) (event_of number side event name.now) }
+    ensures { refusal_of result ≡ refusal_for (strip_of strip.now) (seen event.entry) }
 {
+    let Event { number, side, what } = event;
     if is_above(strip, number) {
-        if side == 1 {
-            side_refusal(&strip[12..492], event, name)
-        } else {
-            side_refusal(&strip[492..972], event, name)
-        }
+        let from = side.start();
+        let end = from + SIDE_BYTES;
+        side_refusal(&strip[from..end], what)
     } else {
-        32
+        Err(Refusal::NotAbove)
     }
 }
 
@@ -265,83 +308,72 @@ fn go_out(side: &mut [u8], name: &[u8])
     words::put_bytes(side, at + 4, name);
 }
 
-// Every name one place down, over the first.
-fn move_down(side: &mut [u8])
-    requires { length side.old ≡ side_bytes }
-    ensures { side.new ≡ moved side.old 408 }
-{
-    let mut i: usize = 0;
-    while i < 408 {
-        side[4 + i] = side[72 + i];
-        i += 1;
-    }
-}
-
-// The one who has been out longest comes back.
+// The one who has been out longest comes back: every name one place down, over the first.
 fn come_back(side: &mut [u8])
     requires { (length side.old ≡ side_bytes) × (is_side side.old ≡ true) × (1 ≤ word32 side.old 0) }
     ensures { side.new ≡ side_code (drop 1 (names_in side.old)) }
 {
     let count = words::get32(side, 0);
     words::put32(side, 0, count - 1);
-    move_down(side);
-    clear(&mut side[412..]);
+    side.copy_within(72..480, 4);
+    side[412..].fill(0);
 }
 
 // A side after an event that it accepts.
-fn change_side(side: &mut [u8], event: u8, name: &[u8])
-    requires { (length side.old ≡ side_bytes) × (is_side side.old ≡ true) × (is_name name.now ≡ true) × (refusal_on (names_in side.old) (what_of event name.now) ≡ 0) }
-    ensures { side.new ≡ side_code (changed (names_in side.old) (what_of event name.now)) }
+fn change_side(side: &mut [u8], what: What<'_>)
+    requires { (length side.old ≡ side_bytes) × (is_side side.old ≡ true) × (named (seen_what what) ≡ true) × (refusal_on (names_in side.old) (seen_what what) ≡ 0) }
+    ensures { side.new ≡ side_code (changed (names_in side.old) (seen_what what.entry)) }
 {
-    if event == 1 {
-        go_out(side, name);
-    } else {
-        come_back(side);
+    match what {
+        What::Out(name) => go_out(side, name),
+        What::Revive => come_back(side),
     }
 }
 
 // The strip after an event that it accepts.
-fn accept(strip: &mut [u8], number: u64, side: u8, event: u8, name: &[u8])
-    requires { (length strip.old ≡ strip_bytes) × (is_strip strip.old ≡ true) × (is_name name.now ≡ true) × (refusal_for (strip_of strip.old) (event_of number side event name.now) ≡ 0) }
-    ensures { strip.new ≡ code_of (accepted (strip_of strip.old) (event_of number side event name.now)) }
+fn accept(strip: &mut [u8], event: Event<'_>)
+    requires { (length strip.old ≡ strip_bytes) × (is_strip strip.old ≡ true) × (named (seen event).what ≡ true) × (refusal_for (strip_of strip.old) (seen event) ≡ 0) }
+    ensures { strip.new ≡ code_of (accepted (strip_of strip.old) (seen event.entry)) }
 {
-    if side == 1 {
-        change_side(&mut strip[12..492], event, name);
-        put_last(strip, number);
-    } else {
-        change_side(&mut strip[492..972], event, name);
-        put_last(strip, number);
-    }
+    let Event { number, side, what } = event;
+    let from = side.start();
+    let end = from + SIDE_BYTES;
+    change_side(&mut strip[from..end], what);
+    put_last(strip, number);
 }
 
-// ---- an event
+// ---- a row's four values
 
-// An event taken, or refused with 31 to 35 and nothing changed, in bytes that code a strip: a caller tests them once and takes many.
-pub fn take_coded(strip: &mut [u8], number: u64, side: u8, event: u8, name: &[u8]) -> u32
+// An event taken, or refused and nothing changed, in bytes that code a strip: a caller tests them once and takes many.
+pub fn take_coded(
+    strip: &mut [u8],
+    number: u64,
+    side: u8,
+    event: u8,
+    name: &[u8],
+) -> Result<(), Refusal>
     requires { is_strip strip.old ≡ true }
-    ensures { (result ≡ given_number (strip_of strip.old) number side event name.now) × (strip.new ≡ code_of (given_took (strip_of strip.old) number side event name.now)) }
+    ensures { (refusal_of result ≡ given_number (strip_of strip.old) number side event name.now) × (strip.new ≡ code_of (given_took (strip_of strip.old) number side event name.now)) }
 {
-    if in_range(side, event, name) {
-        let refusal = refusal_for(strip, number, side, event, name);
-        if refusal == 0 {
-            accept(strip, number, side, event, name);
-            0
-        } else {
-            refusal
-        }
-    } else {
-        31
-    }
+    let Some(event) = Event::of(number, side, event, name) else {
+        return Err(Refusal::OutOfRange);
+    };
+    refusal_for(strip, event)?;
+    accept(strip, event);
+    Ok(())
 }
 
-// The same in any bytes: 1 where there are other than 972, 14 where they code no strip, and nothing changed.
-pub fn take_event(strip: &mut [u8], number: u64, side: u8, event: u8, name: &[u8]) -> u32
-    ensures { (result ≡ event_answer strip.old number side event name.now) × (strip.new ≡ event_leaves strip.old number side event name.now) }
+// The same in any bytes: those that code no strip take none, and nothing changed.
+pub fn take_event(
+    strip: &mut [u8],
+    number: u64,
+    side: u8,
+    event: u8,
+    name: &[u8],
+) -> Result<(), NotTaken>
+    ensures { (not_taken result ≡ event_answer strip.old number side event name.now) × (strip.new ≡ event_leaves strip.old number side event name.now) }
 {
-    let fault = strip_fault(strip);
-    if fault == 0 {
-        take_coded(strip, number, side, event, name)
-    } else {
-        fault
-    }
+    strip_fault(strip)?;
+    take_coded(strip, number, side, event, name)?;
+    Ok(())
 }

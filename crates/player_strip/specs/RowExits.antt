@@ -46,9 +46,6 @@ number_small s n d e name = go (in_range d e name) (number_for s (event_of n d e
     go true h = h
     go false h = omega arith
 
-pub number_fits : (s : Strip) (n d e : ℕ) (name : List ℕ) {r : ℕ} → r ≡ given_number s n d e name → Fits w8 r
-number_fits s n d e name q = record { fits = rw q (omega (arith, number_small s n d e name)) }
-
 -- ---- take_row
 
 module _ (strip slots pool books : List ℕ) (p : Places) (i : ℕ) {b : Bool} (w : b ≡ whole_at slots p i) where

@@ -8,6 +8,7 @@ ghost use Rattle.state.specs.Layout.{queued_slot};
 ghost use Rattle.ranges.specs.Passed.{PassedTests};
 ghost use Rattle.outs.specs.Outs.{given_number, given_took};
 ghost use Rattle.outs.specs.Coding.{code_of, strip_of, is_strip};
+ghost use Rattle.outs.specs.Answers.{refusal_of};
 ghost use Rattle.match_rows.specs.MatchRow.{is_match, row_number, row_took, row_numbers, after_rows};
 ghost use Rattle.match_rows.specs.Placed.{Placed, long_at, places_of, placed_row, placed_rows};
 ghost use Rattle.player_strip.specs.StripCall.{read_refusal, read_call};
@@ -15,6 +16,7 @@ ghost use Rattle.player_strip.specs.Promises.{front_count, ReadsFront, Reads, Ta
 
 use counts::RowCount;
 use match_rows::Places;
+use outs::Refusal;
 use state::BatchCoalescer;
 
 // What reading answers: 0 or the number of the refusal, and how many rows were read.
@@ -34,21 +36,35 @@ pub struct Taken {
 
 // ---- rows
 
-// The number, side and event of row i with a name: taken, or refused with 31 to 35 and nothing changed.
-fn take_named(slots: &[u8], books: &[u8], p: Places, i: usize, name: &[u8], strip: &mut [u8]) -> u8
+// The number, side and event of row i with a name: taken, or refused and nothing changed.
+fn take_named(
+    slots: &[u8],
+    books: &[u8],
+    p: Places,
+    i: usize,
+    name: &[u8],
+    strip: &mut [u8],
+) -> Result<(), Refusal>
     requires { (Placed slots.now books.now p) × (i < p.rows) × (is_strip strip.old ≡ true) }
-    ensures { (result ≡ given_number (strip_of strip.old) (long_at slots.now (p.numbers + 8 * i)) (get_or slots.now (p.sides + i) 0) (get_or slots.now (p.events + i) 0) name.now) × (strip.new ≡ code_of (given_took (strip_of strip.old) (long_at slots.now (p.numbers + 8 * i)) (get_or slots.now (p.sides + i) 0) (get_or slots.now (p.events + i) 0) name.now)) }
+    ensures { (refusal_of result ≡ given_number (strip_of strip.old) (long_at slots.now (p.numbers + 8 * i)) (get_or slots.now (p.sides + i) 0) (get_or slots.now (p.events + i) 0) name.now) × (strip.new ≡ code_of (given_took (strip_of strip.old) (long_at slots.now (p.numbers + 8 * i)) (get_or slots.now (p.sides + i) 0) (get_or slots.now (p.events + i) 0) name.now)) }
 {
     let number = match_rows::long_at(slots, p.numbers + 8 * i);
     let side = p.sides + i;
     let event = p.events + i;
-    outs::take_coded(strip, number, slots[side], slots[event], name) as u8
+    outs::take_coded(strip, number, slots[side], slots[event], name)
 }
 
-// Row i taken, or refused with 31 to 35 and nothing changed.
-fn take_row(slots: &[u8], pool: &[u8], books: &[u8], p: Places, i: usize, strip: &mut [u8]) -> u8
+// Row i taken, or refused and nothing changed.
+fn take_row(
+    slots: &[u8],
+    pool: &[u8],
+    books: &[u8],
+    p: Places,
+    i: usize,
+    strip: &mut [u8],
+) -> Result<(), Refusal>
     requires { (Placed slots.now books.now p) × (i < p.rows) × (is_strip strip.old ≡ true) }
-    ensures { (result ≡ row_number (strip_of strip.old) (placed_row slots.now pool.now books.now p i)) × (strip.new ≡ code_of (row_took (strip_of strip.old) (placed_row slots.now pool.now books.now p i))) }
+    ensures { (refusal_of result ≡ row_number (strip_of strip.old) (placed_row slots.now pool.now books.now p i)) × (strip.new ≡ code_of (row_took (strip_of strip.old) (placed_row slots.now pool.now books.now p i))) }
 {
     if match_rows::is_whole_at(slots, books, p, i) {
         let at = p.names + 16 * i;
@@ -62,7 +78,7 @@ fn take_row(slots: &[u8], pool: &[u8], books: &[u8], p: Places, i: usize, strip:
             take_named(slots, books, p, i, name, strip)
         }
     } else {
-        31
+        Err(Refusal::OutOfRange)
     }
 }
 
@@ -79,10 +95,8 @@ fn take_rows(
     requires { (Placed slots.now books.now p) × (n ≤ p.rows) × (n ≤ length numbers.old) × (is_strip strip.old ≡ true) }
     ensures { (strip.new ≡ code_of (after_rows (strip_of strip.old) (placed_rows slots.now pool.now books.now p n))) × (numbers.new ≡ put 0 (row_numbers (strip_of strip.old) (placed_rows slots.now pool.now books.now p n)) numbers.old) }
 {
-    let mut i: usize = 0;
-    while i < n {
-        numbers[i] = take_row(slots, pool, books, p, i, strip);
-        i += 1;
+    for i in 0..n {
+        numbers[i] = outs::refusal_of(take_row(slots, pool, books, p, i, strip));
     }
 }
 
@@ -127,7 +141,7 @@ fn read_refusal(
     if number != 0 {
         return number;
     }
-    let fault = outs::strip_fault(strip);
+    let fault = outs::fault_of(outs::strip_fault(strip));
     if fault == 1 {
         return 1;
     }

@@ -1,10 +1,9 @@
 -- `frames::put_last` meets its contract.
-use borrow.Author.Rules.{rules}
 use Rattle.frames.specs.PieceLaws.{last_none, last_some}
 use Rattle.frames.proofs.put_last.Goals as goal
 
-pub returns-then-get32-eq0 : goal.returns-then-get32-eq0
-returns-then-get32-eq0 c = search (last_none, rules)
+pub returns-in-None : goal.returns-in-None
+returns-in-None c = last_none _ _ c.in-None.ensures c.put_text.ensures
 
-pub returns-else-get32-eq0 : goal.returns-else-get32-eq0
-returns-else-get32-eq0 c = search (last_some, rules)
+pub returns-in-Some : goal.returns-in-Some
+returns-in-Some c = last_some _ _ c.in-Some.ensures c.put_number.ensures

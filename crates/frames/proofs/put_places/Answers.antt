@@ -1,6 +1,5 @@
 -- `frames::put_places` meets its contract.
 use borrow.Author.Rules.{rules}
-use Prim.Native.Nat.{◌-◌}
 use Rattle.frames.specs.BlockLaws.{places_none, places_more, places_all}
 use Rattle.frames.proofs.put_places.Goals as goal
 

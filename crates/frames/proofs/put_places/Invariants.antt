@@ -1,5 +1,5 @@
 -- `frames::put_places` meets its contract: what its loops keep.
-use Prim.Native.Nat.{◌-◌, ◌*◌, ◌≤◌}
+use Prim.Native.Nat.{◌*◌}
 use mathlib.Core.Path.{◌≡◌}
 use lib.ListN.{length}
 use Rattle.outs.specs.Coding.{names_in}
@@ -8,7 +8,4 @@ use Rattle.frames.specs.Laid.{Laid}
 use Rattle.frames.proofs.put_places.Given as goal
 
 abbrev pub invariant-loop-i : goal.invariant-loop-i
-invariant-loop-i l = (l.i ≤ 7) × (length l.out ≡ length l.initial.out) × Laid (78 * l.i) l.at (places_text (names_in l.side) l.i) l.initial.out l.out l.place
-
-abbrev pub decreases-loop-i : goal.decreases-loop-i
-decreases-loop-i l = 7 - l.i
+invariant-loop-i l = (length l.out ≡ length l.initial.out) × Laid (78 * l.i) l.at (places_text (names_in l.side) l.i) l.initial.out l.out l.place

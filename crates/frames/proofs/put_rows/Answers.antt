@@ -1,6 +1,5 @@
 -- `frames::put_rows` meets its contract.
 use borrow.Author.Rules.{rules}
-use Prim.Native.Nat.{◌-◌}
 use Rattle.frames.specs.BlockLaws.{rows_none, rows_more, rows_all}
 use Rattle.frames.proofs.put_rows.Goals as goal
 

@@ -1,5 +1,4 @@
 -- `frames::show_into` meets its contract.
-use Prim.Native.Nat.{◌-◌}
 use borrow.Author.Rules.{rules}
 use Rattle.words.specs.RunLaws.{copied_none}
 use Rattle.frames.specs.ShownLaws.{showing_none, showing_more, shown-more, shown-all}

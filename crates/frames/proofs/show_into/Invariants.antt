@@ -1,5 +1,4 @@
 -- `frames::show_into` meets its contract: what its loops keep.
-use Prim.Native.Nat.{◌≤◌, ◌-◌}
 use mathlib.Core.Path.{◌≡◌}
 use lib.ListN.{length}
 use Rattle.words.specs.RunLaws.{copied}
@@ -9,7 +8,4 @@ use Rattle.frames.proofs.show_into.Given as goal
 
 abbrev pub invariant-loop-i : goal.invariant-loop-i
 invariant-loop-i l =
-    (l.i ≤ length l.name) × (length l.part ≡ length l.initial.part) × (l.part ≡ copied l.initial.part (shown_name l.name) l.i) × Showing l.name l.before l.i
-
-abbrev pub decreases-loop-i : goal.decreases-loop-i
-decreases-loop-i l = length l.name - l.i
+    (length l.part ≡ length l.initial.part) × (l.part ≡ copied l.initial.part (shown_name l.name) l.i) × Showing l.name l.before l.i

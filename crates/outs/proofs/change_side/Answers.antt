@@ -1,16 +1,10 @@
 -- `outs::change_side` meets its contract.
-use borrow.Author.Rules.{rules}
-use Rattle.outs.proofs.TakeExits.{out_room, somebody, changed-out, changed-back}
+use Rattle.outs.proofs.EventExits.{room_for, somebody_there}
 use Rattle.outs.proofs.change_side.Goals as goal
 
 pub go_out-requires : goal.go_out-requires
-go_out-requires c = search (out_room, rules)
+go_out-requires c =
+    (c.requires.0, c.requires.1, room_for _ _ c.requires.1 (rw c.in-Out.is at c.requires.3), rw c.in-Out.is at c.requires.2)
 
 pub come_back-requires : goal.come_back-requires
-come_back-requires c = search (somebody, rules)
-
-pub returns-then-event-eq1 : goal.returns-then-event-eq1
-returns-then-event-eq1 c = search (changed-out, rules)
-
-pub returns-else-event-eq1 : goal.returns-else-event-eq1
-returns-else-event-eq1 c = search (changed-back, rules)
+come_back-requires c = (c.requires.0, c.requires.1, somebody_there _ c.requires.1 (rw c.in-Revive.is at c.requires.3))

@@ -1,5 +1,4 @@
 -- `outs::is_out` meets its contract: what its loops keep.
-use Prim.Native.Nat.{◌≤◌, ◌-◌}
 use mathlib.Core.Bool.{false}
 use mathlib.Core.Path.{◌≡◌}
 use Rattle.outs.specs.Coding.{first_names}
@@ -7,7 +6,4 @@ use Rattle.outs.specs.Outs.{among}
 use Rattle.outs.proofs.is_out.Given as goal
 
 abbrev pub invariant-loop-i : goal.invariant-loop-i
-invariant-loop-i l = (l.i ≤ l.count) × (among l.name (first_names l.side l.i) ≡ false)
-
-abbrev pub decreases-loop-i : goal.decreases-loop-i
-decreases-loop-i l = l.count - l.i
+invariant-loop-i l = (among l.name (first_names l.side l.i) ≡ false)

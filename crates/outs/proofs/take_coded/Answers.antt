@@ -1,20 +1,33 @@
 -- `outs::take_coded` meets its contract.
-use borrow.Author.Rules.{rules}
-use Rattle.outs.proofs.TakeExits.{range_name, not_refused, given-accepted, given-refused, given_out_of_range, leaves-taken, leaves-refused, leaves_out_of_range}
+use mathlib.Core.Path.{refl, sym}
+use Rattle.std.proofs.lemmas.Result.{err_from_is_err_and}
 use Rattle.outs.specs.CodingLaws.{strip-length}
+use Rattle.outs.specs.AnswersLaws.{refusal_some}
+use Rattle.outs.proofs.TakeExits.{given_out_of_range, leaves_out_of_range}
+use Rattle.outs.proofs.EventExits.{event_named, refused_number, refused_leaves, taken_leaves}
 use Rattle.outs.proofs.take_coded.Goals as goal
 
-pub refusal_for-refusal-requires : goal.refusal_for-refusal-requires
-refusal_for-refusal-requires c = search (strip-length, rules)
+pub refusal_for-requires : goal.refusal_for-requires
+refusal_for-requires c = (strip-length _ c.requires, c.requires)
 
 pub accept-requires : goal.accept-requires
-accept-requires c = search (strip-length, range_name, not_refused, rules)
+accept-requires c =
+    (strip-length _ c.requires, c.requires, event_named c.args.strip.now _ _ _ _ _ c.in-Some.ensures.0 c.in-Some.ensures.1, sym c.in_ok-refusal_for.ensures)
 
-pub returns-then-refusal-eq0 : goal.returns-then-refusal-eq0
-returns-then-refusal-eq0 c = (search (given-accepted, rules), search (leaves-taken, rules))
+pub returns : goal.returns
+returns c = (
+  refused_number _ _ _ _ _ _ c.in-Some.ensures.0 c.in-Some.ensures.1 c.in_ok-refusal_for.ensures,
+  taken_leaves _ _ _ _ _ _ c.in-Some.ensures.0 c.in-Some.ensures.1 c.in_ok-refusal_for.ensures c.accept.ensures,
+)
 
-pub returns-else-refusal-eq0 : goal.returns-else-refusal-eq0
-returns-else-refusal-eq0 c = (search (given-refused, rules), search (leaves-refused, rules))
+pub returns-in_err-refusal_for : goal.returns-in_err-refusal_for
+returns-in_err-refusal_for c =
+    let p = err_from_is_err_and c.from_residual.result c.from_residual.ensures.1 in
+    rw (p.1, p.2) (
+      refused_number _ _ _ _ _ _ c.in-Some.ensures.0 c.in-Some.ensures.1 c.in_err-refusal_for.ensures,
+      refused_leaves _ _ _ _ _ _ c.in-Some.ensures.0 c.in-Some.ensures.1 c.requires c.in_err-refusal_for.ensures (refusal_some _),
+    )
 
-pub returns-else-in_range : goal.returns-else-in_range
-returns-else-in_range c = (search (given_out_of_range, rules), search (leaves_out_of_range, rules))
+pub returns-in_default : goal.returns-in_default
+returns-in_default c =
+    (given_out_of_range _ _ _ _ _ (sym c.in_default.ensures) refl, leaves_out_of_range _ _ _ _ _ c.requires (sym c.in_default.ensures) refl)
