@@ -1,7 +1,7 @@
 -- The pieces of a frame, as the code lays them: a law an exit.
 use Rattle.std.specs.Prelude.{ℕ, ◌+◌, ◌≤◌, ◌≡◌, List, length}
 use Rattle.std.proofs.Common.{arith, ne_eqb}
-use Rattle.std.proofs.Math.Option.{none, some}
+use Rattle.std.specs.Prelude.{None, Some}
 use Rattle.outs.specs.Coding.{last_in}
 use Rattle.frames.specs.Text.{text, decimal, shown_name}
 use Rattle.frames.specs.Frame.{line_end, last_text, head_text, title_text, mark_text, player_text}
@@ -10,11 +10,11 @@ use Rattle.frames.specs.Laid.{Laid, laid_more, laid_three, laid_five}
 -- ---- the first line
 
 -- the exits of `put_last`
-pub last_none : (b s : List ℕ) {at r : ℕ} {t : List ℕ} → last_in b ≡ none → Laid 4 at (text "none") s t r → Laid 20 at (last_text (last_in b)) s t r
+pub last_none : (b s : List ℕ) {at r : ℕ} {t : List ℕ} → last_in b ≡ None → Laid 4 at (text "None") s t r → Laid 20 at (last_text (last_in b)) s t r
 unfolding last_text
 last_none b s e l = rw e (laid_more l (omega arith))
 
-pub last_some : (b s : List ℕ) {n at r : ℕ} {t : List ℕ} → last_in b ≡ some n → Laid 20 at (decimal n) s t r → Laid 20 at (last_text (last_in b)) s t r
+pub last_some : (b s : List ℕ) {n at r : ℕ} {t : List ℕ} → last_in b ≡ Some n → Laid 20 at (decimal n) s t r → Laid 20 at (last_text (last_in b)) s t r
 unfolding last_text
 last_some b s e l = rw e l
 

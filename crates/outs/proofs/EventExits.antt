@@ -1,7 +1,7 @@
 -- The exits of the functions that take an event: each is the one of ReadExits or TakeExits, for a side and a thing that happens.
 use Rattle.std.specs.Prelude.{ℕ, ◌+◌, ◌-◌, ◌*◌, ◌≤◌, ◌<◌, ◌≡◌, refl, Bool, true, false, List, [], ◌++◌, cond, eqb, ltb, take, drop}
 use Rattle.std.proofs.Common.{sym, ◌∙◌, ap, arith}
-use Rattle.std.proofs.Math.Option.{none, some}
+use Rattle.std.specs.Prelude.{None, Some}
 use lib.Pointwise.{pointwise}
 use borrow.Rule.Slice.PartMut.{put_mid}
 use Rattle.search.specs.Table.{same}
@@ -19,16 +19,16 @@ use Rattle.outs.proofs.TakeExits.{out_room, somebody, range_name, took-first, to
 
 -- ---- the last accepted number
 
-pub number_none : (b : List ℕ) {f : ℕ} → f ≡ word32 b 0 → f ≡ 0 → last_in b ≡ none
+pub number_none : (b : List ℕ) {f : ℕ} → f ≡ word32 b 0 → f ≡ 0 → last_in b ≡ None
 number_none b e z = last_off b (sym e ∙ z)
 
-pub number_some : (b : List ℕ) {f lo hi : ℕ} → f ≡ word32 b 0 → (f ≡ 0 → ⊥) → lo ≡ word32 b 4 → hi ≡ word32 b 8 → last_in b ≡ some (lo + hi * 4294967296)
+pub number_some : (b : List ℕ) {f lo hi : ℕ} → f ≡ word32 b 0 → (f ≡ 0 → ⊥) → lo ≡ word32 b 4 → hi ≡ word32 b 8 → last_in b ≡ Some (lo + hi * 4294967296)
 number_some b e z p q = rw (p, q) (last_on b (λ w. z (e ∙ w)))
 
-pub above_first : (b : List ℕ) (n : ℕ) → last_in b ≡ none → true ≡ is_above (last_in b) n
+pub above_first : (b : List ℕ) (n : ℕ) → last_in b ≡ None → true ≡ is_above (last_in b) n
 above_first b n e = rw e
 
-pub above_last : (b : List ℕ) (n : ℕ) {k : ℕ} → last_in b ≡ some k → ltb k n ≡ is_above (last_in b) n
+pub above_last : (b : List ℕ) (n : ℕ) {k : ℕ} → last_in b ≡ Some k → ltb k n ≡ is_above (last_in b) n
 above_last b n e = rw e
 
 -- ---- a side
@@ -69,7 +69,7 @@ somebody_there side h z = somebody side [] 2 h z (λ e. omega arith)
 -- ---- the strip
 
 -- a side where it stands
-took_there : (b : List ℕ) (d : coded_side.Side) (n : ℕ) (w : What) {u t : List ℕ} → is_strip b ≡ true → u ≡ side_code (changed (names_in (take (start_of d + 480 - start_of d) (drop (start_of d) b))) w) → t ≡ last_code (some n) ++ drop 12 (put_mid (start_of d) (start_of d + 480 - start_of d) b u) → t ≡ code_of (accepted (strip_of b) (record { number = n; side = seen_side d; what = w }))
+took_there : (b : List ℕ) (d : coded_side.Side) (n : ℕ) (w : What) {u t : List ℕ} → is_strip b ≡ true → u ≡ side_code (changed (names_in (take (start_of d + 480 - start_of d) (drop (start_of d) b))) w) → t ≡ last_code (Some n) ++ drop 12 (put_mid (start_of d) (start_of d + 480 - start_of d) b u) → t ≡ code_of (accepted (strip_of b) (record { number = n; side = seen_side d; what = w }))
 unfolding side_of what_of
 took_there b One n (out name) h p q = took-first b name n 1 1 h refl p q
 took_there b One n revive h p q = took-first b [] n 1 2 h refl p q
@@ -100,7 +100,7 @@ module _ (b : List ℕ) (d : coded_side.Side) {f : ℕ} (at : f ≡ start_of d) 
   pub asked_at : (n : ℕ) (w : What) → refusal_for (strip_of b) (record { number = n; side = seen_side d; what = w }) ≡ 0 → refusal_on (names_in (take (f + 480 - f) (drop f b))) w ≡ 0
   asked_at n w z = rw lent_names (accepted_on (strip_of b) (record { number = n; side = seen_side d; what = w }) z)
 
-  pub took_at : (n : ℕ) (w : What) {u t : List ℕ} → is_strip b ≡ true → u ≡ side_code (changed (names_in (take (f + 480 - f) (drop f b))) w) → t ≡ last_code (some n) ++ drop 12 (put_mid f (f + 480 - f) b u) → t ≡ code_of (accepted (strip_of b) (record { number = n; side = seen_side d; what = w }))
+  pub took_at : (n : ℕ) (w : What) {u t : List ℕ} → is_strip b ≡ true → u ≡ side_code (changed (names_in (take (f + 480 - f) (drop f b))) w) → t ≡ last_code (Some n) ++ drop 12 (put_mid f (f + 480 - f) b u) → t ≡ code_of (accepted (strip_of b) (record { number = n; side = seen_side d; what = w }))
   took_at n w h p q = took_there b d n w h (rw at at p) (rw at at q)
 
 pub number_low : (b : List ℕ) (e : Event) {r : Bool} → r ≡ is_above (last_in b) e.number → r ≡ false → 32 ≡ refusal_for (strip_of b) e

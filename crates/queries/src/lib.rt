@@ -7,7 +7,7 @@ ghost use Rattle.rules.specs.Steps.{with_limit};
 ghost use Rattle.rules.specs.Calls.{limit_of, buffered_count, has_completed, is_empty};
 
 use counts::RowCount;
-use state::{BatchCoalescer, Limit};
+use state::BatchCoalescer;
 
 // biggest_coalesce_batch_size, and its setter.
 pub fn biggest_coalesce_batch_size(s: BatchCoalescer) -> Option<RowCount>
