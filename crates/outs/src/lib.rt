@@ -1,8 +1,7 @@
 // The player strip of 02, K6, in lent bytes: who is out on each side, the one out longest first. It knows no coalescer.
 #![tactic(auto)]
 
-ghost use Rattle.std.specs.Prelude.{◌≡◌, true, false, [], ◌∷◌, ◌++◌, ◌+◌, ◌*◌, ◌≤◌, ◌<◌, length, drop, MatchOption};
-ghost use Rattle.std.proofs.Math.Option.{none, some};
+ghost use Rattle.std.specs.Prelude.{◌≡◌, true, false, [], ◌∷◌, ◌++◌, ◌+◌, ◌*◌, ◌≤◌, ◌<◌, length, drop, MatchOption, None, Some};
 ghost use Rattle.words.specs.Word.{word32};
 ghost use Rattle.outs.specs.Outs.{among, is_above, refusal_on, refusal_for, changed, accepted, is_name, in_range, side_of, what_of, event_of, given_number, given_took};
 ghost use Rattle.outs.specs.Coding.{strip_bytes, side_bytes, side_code, last_code, code_of, name_in, names_in, last_in, strip_of, is_side, is_strip, strip_fault, new_fault, new_leaves, event_answer, event_leaves};
@@ -194,7 +193,7 @@ fn in_range(side: u8, event: u8, name: &[u8]) -> bool
 // The last accepted number, where there is one.
 pub fn last_number(strip: &[u8]) -> Option<u64>
     requires { 12 ≤ length strip.now }
-    ensures { MatchOption result (last_in strip.now ≡ none) (λ n. last_in strip.now ≡ some n) }
+    ensures { MatchOption result (last_in strip.now ≡ None) (λ n. last_in strip.now ≡ Some n) }
 {
     if words::get32(strip, 0) == 0 {
         None
@@ -289,7 +288,7 @@ fn refusal_for(strip: &[u8], event: Event<'_>) -> Result<(), Refusal>
 // The last accepted number.
 fn put_last(strip: &mut [u8], number: u64)
     requires { length strip.old ≡ strip_bytes }
-    ensures { strip.new ≡ last_code (some number) ++ drop 12 strip.old }
+    ensures { strip.new ≡ last_code (Some number) ++ drop 12 strip.old }
 {
     words::put32(strip, 0, 1);
     words::put32(strip, 4, (number % 4294967296) as u32);
