@@ -39,7 +39,7 @@ class Names:
         return None
 
     def qualified(self, token):
-        """A case of an enum, `Limit.Unset`; a name of a module with another name, `calls.Dropped`; or a module's path and the name in it."""
+        """A case of an enum, `RowAnswer.Null`; a name of a module with another name, `calls.Dropped`; or a module's path and the name in it."""
         first, _, last = token.rpartition('.')
         if self.repository.module(first):
             return self.repository.imported(first, last)

@@ -50,7 +50,7 @@ fn by_width() -> Vec<Group> {
 #[test]
 fn the_arms_group_the_kinds_and_name_them() {
     let code = text("crates/kinds/src/lib.rt");
-    let arms = code.lines().filter_map(|line| line.split_once(" => Width::Bytes("));
+    let arms = code.lines().filter_map(|line| line.split_once(" => Some("));
     let told = arms.map(|(listed, behind)| {
         let (width, names) = behind.split_once("), //").expect("names behind the arm");
         group(width, numbers(listed, '|', "..="), names)
