@@ -1,5 +1,5 @@
 -- The bits of one byte, and of a byte to which bits are appended.
-use Rattle.std.specs.Prelude.{ℕ, zero, ◌+◌, ◌-◌, ◌*◌, ◌/◌, ◌%◌, ◌^◌, ◌≤◌, ◌<◌, ◌≡◌}
+use Rattle.std.specs.Prelude.{ℕ, ◌+◌, ◌-◌, ◌*◌, ◌/◌, ◌%◌, ◌^◌, ◌≤◌, ◌<◌, ◌≡◌}
 use Rattle.std.proofs.Common.{sym, ◌∙◌, ap, subst, arith, mod-lt, add_comm, mod-eq_of_lt, lt_of_lt_of_le, mul_assoc, add-mul, pow_pos, pow_mono, pow-add, shr-shr}
 use Rattle.std.proofs.Math.Nat.{mod-mod, add-mul-mod_self_right, div-eq_of_lt}
 use Rattle.std.proofs.Math.Arith.{digits_lt}

@@ -18,6 +18,7 @@ pub struct BufferSource {
 }
 
 // What an ask gives: the size of the block, and the source with the size that is kept.
+// Kept: `open_blocks` and `trial_column` call `next_size` by value, and `asked` says it so.
 #[derive(Clone, Copy)]
 pub struct NextSize {
     pub source: BufferSource,

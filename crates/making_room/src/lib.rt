@@ -21,10 +21,11 @@ pub fn choose(books: &[u8], n: u32, pool: ByteCount, capacity: ByteSum) -> Resul
 }
 
 // Whether an entry is zero.
+#[tactic(auto, unfolding(room::specs::Room::is_zero))]
 fn is_zero(e: Entry) -> bool
     ensures { result ≡ is_zero e }
 {
-    (e.start == 0) & ((e.capacity.0 == 0) & ((e.length.0 == 0) & books::is_free(e)))
+    e.start == 0 && e.capacity.0 == 0 && e.length.0 == 0 && books::is_free(e)
 }
 
 // An empty buffer of the capacity, with the hold and the listings given; 14 where the entry of its number is not zero.

@@ -49,6 +49,7 @@ pub fn register(
 }
 
 // The caller lets a buffer go: 0, or 13 where it isn't there or isn't the caller's to let go.
+// Kept: a number, since `buffers` hands it on to the C interface as it is.
 pub fn let_go(books: &mut [u8], number: BufferNumber) -> u32
     requires { 4 + 20 * used_of books.old ≤ length books.old }
     ensures { LetsGo (let_go books.old number.0) books.new result }

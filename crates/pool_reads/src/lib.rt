@@ -9,6 +9,7 @@ ghost use Rattle.pool_reads.specs.Place.{part_start, PartAt};
 use counts::BufferNumber;
 
 // The number of the refusal of a read of a buffer: 0, or 13 where it isn't there.
+// Kept: a number, since `buffers::buffer_refusal` hands it on to the C interface as it is.
 pub fn buffer_refusal(books: &[u8], pool: &[u8], number: BufferNumber) -> u32
     requires { 4 + 20 * used_of books.now ≤ length books.now }
     ensures { result ≡ read_refusal books.now pool.now number.0 }

@@ -1,14 +1,12 @@
 -- The laws of counts: same place, other place, and what they leave of the entries.
-use Rattle.std.specs.Prelude.{ℕ, suc, ◌+◌, ◌*◌, ◌-◌, ◌≤◌, ◌<◌, ◌^◌, ◌≡◌, refl, List, length}
-use Rattle.std.proofs.Common.{sym, ◌∙◌, ap, arith, mul-le-mul_left, mul-le-mul_right}
-use Rattle.std.proofs.Math.Decide.{dec_lt}
+use Rattle.std.specs.Prelude.{ℕ, suc, ◌+◌, ◌*◌, ◌-◌, ◌≤◌, ◌<◌, ◌^◌, ◌≡◌, List, length}
+use Rattle.std.proofs.Common.{arith, mul-le-mul_left}
 use Rattle.words.specs.Word.{word32, with_word32}
 use Rattle.words.specs.WordLaws.{word32-same, word32_other, length-with_word32}
-use Rattle.words.specs.Frame.{Framed, Apart, under, over}
+use Rattle.words.specs.Frame.{Framed, under, over}
 use Rattle.words.specs.FrameLaws.{word_framed, framed_word}
-use Rattle.books.specs.declared.Entry.{Entry}
-use Rattle.books.specs.Entry.{used_of, place, entry_of, with_entry}
-use Rattle.books.specs.EntryLaws.{entry_framed, framed_entry, framed_used}
+use Rattle.books.specs.Entry.{used_of, entry_of}
+use Rattle.books.specs.EntryLaws.{framed_entry, framed_used}
 use Rattle.tallies.specs.declared.Tally.{Tally}
 use Rattle.tallies.specs.Tally.{tally_place, tally_of, with_tally}
 

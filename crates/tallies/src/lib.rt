@@ -5,6 +5,7 @@ ghost use Rattle.std.specs.Prelude.{◌≡◌, ◌+◌, ◌*◌, ◌≤◌, leng
 ghost use Rattle.tallies.specs.Tally.{tally_place, tally_of, with_tally};
 
 // Which count: of N buffer numbers and so many columns, the k-th word of a slot. 0 is its rows, c + 1 the list of column c.
+// Kept: its bounds stand in each contract; as a ghost field they would be asked of `slot_counts` where it makes the value.
 #[derive(Clone, Copy)]
 pub struct Tally {
     pub numbers: u32,

@@ -2,12 +2,12 @@
 use Prim.Native.Nat.{ℕ, ◌+◌, ◌-◌, ◌≤◌, ◌<◌}
 use Rattle.std.specs.Prelude.{◌≡◌, refl, take, set, get_or}
 use Rattle.std.proofs.Math.Path.{sym, ap}
-use Rattle.std.proofs.Common.{◌∙◌, arith, zero-add, add-one, length-take, length-append, drop_of_length-le, take-append-drop, take_all, take_at, drop_at, length-take-le}
+use Rattle.std.proofs.Common.{◌∙◌, arith, zero-add, add-one, length-take, length-append, drop_of_length-le, take-append-drop, take_all, drop_at, length-take-le}
 use mathlib.Core.List.{List, [], ◌++◌, append-nil, append_assoc}
 use Rattle.std.proofs.Math.Nat.{add-sub_cancel_left}
 use Rattle.std.proofs.Math.ListN.{length, drop, length-drop}
 use Rattle.std.proofs.Math.Seq.{paste-suc, take-length, drop-drop, take-append-le, take-append_seam}
-use Rattle.std.proofs.lemmas.List.{drop-append-le}
+use Rattle.std.proofs.lemmas.List.{drop-append-le, take-take, drop-take}
 use borrow.Rule.Slice.PartMut.{put_mid}
 use Rattle.words.specs.Run.{read, put, lay}
 
@@ -49,24 +49,12 @@ part_read a n s = rw (add-sub_cancel_left a n)
 pub put-read : (s src : List ℕ) (at from n : ℕ) {t : List ℕ} → t ≡ put at (take (from + n - from) (drop from src)) s → t ≡ put at (read from n src) s
 put-read s src at from n e = rw (part_read from n src) at e
 
-take-take : (x n : ℕ) (l : List ℕ) → x ≤ n → x ≤ length l → take x (take n l) ≡ take x l
-take-take x n l h k =
-    let e : take x (take n l ++ drop n l) ≡ take x (take n l) = take-append-le x (take n l) (drop n l) (simp length-take (omega arith)) in
-    sym e ∙ rw take-append-drop
-
-drop-take : (x n : ℕ) (l : List ℕ) → x ≤ n → n ≤ length l → drop x (take n l) ≡ take (n - x) (drop x l)
-drop-take x n l h k =
-    let q : drop x (take n l ++ drop n l) ≡ drop x (take n l) ++ drop n l = drop-append-le x (take n l) (drop n l) (simp length-take (omega arith)) in
-    let m : length (drop x (take n l)) ≡ n - x = simp (length-drop, length-take) (omega arith) in
-    let e : take (n - x) (drop x (take n l) ++ drop n l) ≡ drop x (take n l) = take_at (drop x (take n l)) (drop n l) (n - x) m in
-    sym e ∙ ap (take (n - x)) (sym q) ∙ rw take-append-drop
-
 -- a part of a part
 pub read-read : (x m a n : ℕ) (s : List ℕ) → x + m ≤ n → a + n ≤ length s → read x m (read a n s) ≡ read (a + x) m s
 unfolding read
 read-read x m a n s h k =
-    ap (take m) (drop-take x n (drop a s) (omega arith) (simp length-drop (omega arith)))
-    ∙ take-take m (n - x) (drop x (drop a s)) (omega arith) (simp length-drop (omega arith))
+    let e : n ≡ x + (n - x) = omega arith in
+    ap (λ (k : ℕ). take m (drop x (take k (drop a s)))) e ∙ ap (take m) (drop-take x (n - x) (drop a s)) ∙ take-take m (n - x) (drop x (drop a s)) (omega arith)
     ∙ rw drop-drop
 
 -- what a put leaves: its length, its own run, the runs before and behind it, a part of its run

@@ -5,12 +5,6 @@ use borrow.Author.Tests.{ltb-true}
 use Rattle.blocks.specs.BlockLaws.{grown-turn, grown_min, grown-top}
 use Rattle.blocks.proofs.grow.Goals as goal
 
-pub overflow_mul-s : goal.overflow_mul-s
-overflow_mul-s c = omega (arith, ltb-true)
-
-pub loop-s-smaller : goal.loop-s-smaller
-loop-s-smaller c = omega (arith, ltb-true)
-
 pub loop-s-preserved : goal.loop-s-preserved
 loop-s-preserved c = (omega (arith, ltb-true), omega (arith, ltb-true), search (grown-turn, rules))
 

@@ -1,19 +1,10 @@
 -- `buffer_ranges::books_in_range` meets its contract.
 use borrow.Author.Rules.{rules}
-use Rattle.pool.specs.ReadLaws.{range_none, range_more, range_room, range_over, range_fails, range_done}
+use Rattle.pool.specs.ReadLaws.{range_over, range_fails, range_done}
 use Rattle.buffer_ranges.proofs.books_in_range.Goals as goal
 
 pub returns-then-n-used : goal.returns-then-n-used
 returns-then-n-used c = search (range_over, rules)
-
-pub loop-i-init : goal.loop-i-init
-loop-i-init c = search (range_none, rules)
-
-pub entry_at-requires : goal.entry_at-requires
-entry_at-requires c = search (range_room, rules)
-
-pub loop-i-preserved : goal.loop-i-preserved
-loop-i-preserved c = search (range_more, rules)
 
 pub returns-then-not-fits_in : goal.returns-then-not-fits_in
 returns-then-not-fits_in c = search (range_fails, rules)

@@ -1,10 +1,7 @@
 -- `gaps::lowest_free` meets its contract.
 use borrow.Author.Rules.{rules}
-use Rattle.books.specs.SearchLaws.{used_room', free-none, free_more, free_here, free-next, free-nothing}
+use Rattle.books.specs.SearchLaws.{used_room', free_more, free_here, free-next, free-nothing}
 use Rattle.gaps.proofs.lowest_free.Goals as goal
-
-pub loop-i-init : goal.loop-i-init
-loop-i-init c = search (free-none, rules)
 
 pub entry_at-requires : goal.entry_at-requires
 entry_at-requires c = search (used_room', rules)
