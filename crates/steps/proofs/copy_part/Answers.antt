@@ -3,7 +3,7 @@ use mathlib.Core.Path.{refl}
 use native.Mathlib.Omega.{arith}
 use borrow.Author.Rules.{rules}
 use Rattle.whole.specs.PlaceLaws.{place-fits, place-more}
-use Rattle.steps.specs.PartLaws.{part_few, part_columns, part_slot, part_fits, copied_none, copied_asks, copied_more, copied_stop, copied_all, as_is_asks, copied_as_is}
+use Rattle.steps.specs.PartLaws.{part_few, part_columns, part_slot, copied_none, copied_asks, copied_more, copied_stop, copied_all, as_is_asks, copied_as_is}
 use Rattle.steps.proofs.copy_part.Goals as goal
 
 pub values_place-place-requires : goal.values_place-place-requires
@@ -30,20 +30,8 @@ copy_column-step-requires c = copied_asks c.requires c.loop-c.invariant.5 c.loop
 pub loop-c-preserved : goal.loop-c-preserved
 loop-c-preserved c = (c.loop-c.invariant.0, search (c.copy_column-step.auto.slots, c.loop-c.invariant.1, rules), search (c.copy_column-step.auto.pool, c.loop-c.invariant.2, rules), search (c.copy_column-step.auto.books, c.loop-c.invariant.3, rules), place-more _ (part_few c.requires) c.requires.run.fit.place c.loop-c-test.true c.loop-c.invariant.4 c.column_size-place.ensures.0, copied_more c.requires c.loop-c.invariant.5 c.loop-c-test.true c.loop-c.place c.copy_column-step.ensures c.if-step-ne0.false)
 
-pub shape_of-slots-then-step-ne0 : goal.shape_of-slots-then-step-ne0
-shape_of-slots-then-step-ne0 c = search (c.copy_column-step.auto.slots, c.loop-c.invariant.1, rules)
-
-pub shape_of-pool-then-step-ne0 : goal.shape_of-pool-then-step-ne0
-shape_of-pool-then-step-ne0 c = search (c.copy_column-step.auto.pool, c.loop-c.invariant.2, rules)
-
-pub shape_of-books-then-step-ne0 : goal.shape_of-books-then-step-ne0
-shape_of-books-then-step-ne0 c = search (c.copy_column-step.auto.books, c.loop-c.invariant.3, rules)
-
 pub returns-then-step-ne0 : goal.returns-then-step-ne0
 returns-then-step-ne0 c = copied_stop c.requires c.loop-c.invariant.5 c.loop-c-test.true c.loop-c.place c.copy_column-step.ensures c.if-step-ne0.true
-
-pub overflow_add-buffered : goal.overflow_add-buffered
-overflow_add-buffered c = omega (arith, part_fits c.requires)
 
 pub returns : goal.returns
 returns c = search (copied_all, rules)
