@@ -40,6 +40,7 @@ fn show_into(part: &mut [u8], name: &[u8])
 }
 
 // ---- a text laid at a place; the place behind it
+// Kept: `out` and `at` side by side: `Laid` speaks of both in turn, and a cursor holding a `&mut` would say the same of its fields.
 
 // A name as it is shown.
 fn put_name(out: &mut [u8], at: usize, name: &[u8]) -> usize

@@ -20,6 +20,7 @@ use outs::Refusal;
 use state::BatchCoalescer;
 
 // What reading answers: 0 or the number of the refusal, and how many rows were read.
+// Kept: strip_story's `code_read` speaks of this type's fields, and `pw_strip_read` answers both numbers.
 #[derive(Clone, Copy)]
 pub struct Read {
     pub number: u32,
@@ -27,6 +28,7 @@ pub struct Read {
 }
 
 // What taking answers: the state besides.
+// Kept: strip_story's `code-take` speaks of this type's fields, and `pw_strip_take` keeps the state and answers both numbers.
 #[derive(Clone, Copy)]
 pub struct Taken {
     pub state: BatchCoalescer,
@@ -127,6 +129,7 @@ fn front_places(s: BatchCoalescer, slots: &[u8], books: &[u8]) -> Places
 // ---- the calls
 
 // The number of the refusal, beside a strip's bytes and room for so many answers.
+// Kept: `ranges::tested` answers a number, and `Read` hands it on to the C interface as it is.
 fn read_refusal(
     s: BatchCoalescer,
     slots: &[u8],
