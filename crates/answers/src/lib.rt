@@ -1,91 +1,125 @@
-// What calls of the coalescer answer, as plain numbers: an answer of two numbers, the counts, and a cell with the bytes that it names. Said
-// once for the libraries that print them.
+// What calls of the coalescer answer: a value or a refusal, the counts, and a cell with the bytes that it names. The C layer hands out numbers; here
+// they become these.
 #![tactic(auto)]
 
-ghost use Rattle.std.specs.Prelude.{◌*◌, ◌≡◌, length};
+use std::fmt;
 
-// An answer of two numbers: that of the refusal, or 0, and the value. Of a limit, 1 where one is set, and its rows.
-#[derive(Clone, Copy)]
-pub struct Answer {
-    pub number: u32,
-    pub value: u32,
-}
+// The number of a refusal.
+#[derive(Clone, Copy, Debug, PartialEq, Eq)]
+pub struct Refusal(pub u32);
 
-// The C layer hands the two out as one: the first in the upper 32 bits, the second in the lower.
-pub fn answer_in(both: u64) -> Answer {
-    Answer {
-        number: (both / 4294967296) as u32,
-        value: (both % 4294967296) as u32,
+impl fmt::Display for Refusal {
+    fn fmt<W: fmt::Write>(&self, f: &mut fmt::Formatter<W>) -> fmt::Result {
+        write!(f, "refused {}", self.0)
     }
 }
 
-// A refusal alone, as the C layer hands out two numbers.
-pub fn refused(number: u32) -> u64
-    ensures { result ≡ number * 4294967296 }
-{
-    number as u64 * 4294967296
+// What a call answers: a value, 0 where it has none, or why it did nothing.
+pub type Answer = Result<u32, Refusal>;
+
+// The answer of a call that answers the refusal alone, 0 for none.
+pub fn done(refusal: u32) -> Answer {
+    match refusal {
+        0 => Ok(0),
+        number => Err(Refusal(number)),
+    }
 }
 
-// What the state says between calls: rows buffered, batches queued, the two flags, and the limit.
-#[derive(Clone, Copy)]
+// An answer of two numbers, which the C layer hands out as one: the refusal in the upper 32 bits, the value in the lower.
+pub fn answer_in(both: u64) -> Answer {
+    done((both >> 32) as u32).and(Ok((both % 4294967296) as u32))
+}
+
+// The limit, which the C layer hands out as one number: 1 in the upper 32 bits where one is set, and its rows in the lower.
+pub fn limit_in(both: u64) -> Option<u32> {
+    match both >> 32 {
+        0 => None,
+        _ => Some((both % 4294967296) as u32),
+    }
+}
+
+// What the state says between calls: rows buffered, batches queued, whether one is, whether all is empty, and the limit.
+#[derive(Clone, Copy, Debug, PartialEq, Eq)]
 pub struct Counts {
     pub buffered: u32,
     pub queued: u32,
-    pub completed: u32,
-    pub empty: u32,
-    pub limit: Answer,
+    pub completed: bool,
+    pub empty: bool,
+    pub limit: Option<u32>,
 }
 
-// A cell of the front batch: the refusal of its read, or 0; then whether it is null (0), in its row (1) or in a buffer (2), the place in the
-// slots or the buffer's number, the offset in the buffer, and the length.
-#[derive(Clone, Copy)]
-pub struct Cell {
-    pub refusal: u32,
-    pub kind: u32,
-    pub place: u32,
-    pub offset: u32,
-    pub length: u32,
-}
-
-// A cell by the five words that a read wrote. The third, the upper half of a place in the slots, is 0 wherever less than 4 GiB is lent.
-pub fn cell_in(refusal: u32, words: &[u8]) -> Cell
-    requires { length words.now ≡ 20 }
-{
-    Cell {
-        refusal,
-        kind: words::get32(words, 0),
-        place: words::get32(words, 4),
-        offset: words::get32(words, 12),
-        length: words::get32(words, 16),
+impl fmt::Display for Counts {
+    fn fmt<W: fmt::Write>(&self, f: &mut fmt::Formatter<W>) -> fmt::Result {
+        write!(f, "buffered {}, queued {}", self.buffered, self.queued)
     }
 }
 
-// A word of a memory, 0 where it is not all there.
-pub fn word_at(s: &[u8], at: usize) -> u32 {
-    if at < 4294967296 {
-        if at + 4 <= s.len() {
-            return words::get32(s, at);
+// A cell of the front batch: null, in its row in the slots, or in a buffer.
+#[derive(Clone, Copy, Debug, PartialEq, Eq)]
+pub enum Cell {
+    Null,
+    InRow {
+        place: u32,
+        length: u32,
+    },
+    InBuffer {
+        buffer: u32,
+        offset: u32,
+        length: u32,
+    },
+}
+
+impl From<[u8; 20]> for Cell {
+    // The five words that a read wrote. The third, the upper half of a place in the slots, is 0 wherever less than 4 GiB is lent.
+    fn from(words: [u8; 20]) -> Cell {
+        let place = words::get32(&words, 4);
+        let length = words::get32(&words, 16);
+        match words::get32(&words, 0) {
+            0 => Cell::Null,
+            1 => Cell::InRow { place, length },
+            _ => Cell::InBuffer {
+                buffer: place,
+                offset: words::get32(&words, 12),
+                length,
+            },
         }
     }
-    0
+}
+
+impl fmt::Display for Cell {
+    fn fmt<W: fmt::Write>(&self, f: &mut fmt::Formatter<W>) -> fmt::Result {
+        match self {
+            Cell::Null => f.write_str("null"),
+            Cell::InRow { place, length } => write!(f, "in its row at {place}, length {length}"),
+            Cell::InBuffer {
+                buffer,
+                offset,
+                length,
+            } => write!(f, "in buffer {buffer} at {offset}, length {length}"),
+        }
+    }
+}
+
+// The word of a memory at a place, 0 where it is not all there.
+pub fn word_at(s: &[u8], at: usize) -> u32 {
+    match s.get(at..) {
+        Some(rest) => rest
+            .first_chunk()
+            .map_or(0, |word| u32::from_le_bytes(*word)),
+        None => 0,
+    }
+}
+
+// The word put at a place of a memory, where there is one.
+pub fn put_word(s: &mut [u8], at: usize, word: u32) {
+    if at <= s.len()
+        && let Some(place) = s[at..].first_chunk_mut()
+    {
+        *place = word.to_le_bytes();
+    }
 }
 
 // The n bytes from a start on, or none where they are not all there.
 pub fn part(s: &[u8], start: usize, n: usize) -> &[u8] {
-    if start <= s.len() {
-        if n <= s.len() - start {
-            let end = start + n;
-            return &s[start..end];
-        }
-    }
-    &s[0..0]
-}
-
-// The bytes that a cell names, of the slots or of its buffer; null has none.
-pub fn bytes_of<'a>(slots: &'a [u8], buffer: &'a [u8], cell: Cell) -> &'a [u8] {
-    if cell.kind == 1 {
-        part(slots, cell.place as usize, cell.length as usize)
-    } else {
-        part(buffer, cell.offset as usize, cell.length as usize)
-    }
+    s.get(start..).and_then(|rest| rest.get(..n)).unwrap_or(&[])
 }

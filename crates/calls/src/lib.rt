@@ -1,111 +1,233 @@
 // The calls of a capture made on the four memories, each at one place: what programs that play one know of the C layer.
 #![tactic(auto)]
 
-use answers::{Cell, Counts, refused};
-use capture::Call;
+ghost use Rattle.std.specs.Prelude.{◌≤◌, length};
 
-// Makes a call that changes memory, or none; answers two numbers, the refusal in the upper 32 bits and the value in the lower.
-pub fn make(
-    state: &mut [u8],
-    slots: &mut [u8],
-    pool: &mut [u8],
-    books: &mut [u8],
-    first: &[u8],
-    second: &[u8],
-    x: Call,
-) -> u64 {
-    let what = x.what;
-    match what {
-        1 => refused(capi_set_up::pw_new(
-            state, slots, pool, books, first, x.a, x.b, x.c, x.d, x.e,
-        )),
-        2 => capi_buffers::pw_register_buffer(state, slots, pool, books, second, x.a),
-        3 => refused(capi_buffers::pw_let_go(state, slots, pool, books, x.a)),
-        4 => refused(capi_batches::pw_push_batch(state, slots, pool, books, first, second, x.a)),
-        5 => refused(capi_batches::pw_finish_buffered_batch(state, slots, pool, books)),
-        6 => capi_batches::pw_next_completed_batch(state, slots, pool, books),
-        7 => refused(capi_state::pw_set_biggest_coalesce_batch_size(state, x.a, x.b)),
-        12 => poke(state, slots, books, x),
-        _ => 0,
-    }
+use answers::{Answer, Cell, Counts, Refusal, answer_in, done, part};
+use capture::{Call, Lent, Memory, Place, Sent, SetUp, Wrong};
+
+// A memory of so many bytes, all of them 0.
+pub fn memory<const N: usize>() -> [u8; N] {
+    [0; N]
 }
 
-// The rows buffered.
-pub fn buffered(state: &[u8]) -> u32 {
-    capi_state::pw_get_buffered_rows(state)
+// The memories that a capture's calls are made on, and how much of each but the state is lent.
+#[derive(Drop)]
+pub struct Memories<'a> {
+    pub state: [u8; codes::STATE_BYTES],
+    pub slots: &'a mut [u8],
+    pub pool: &'a mut [u8],
+    pub books: &'a mut [u8],
+    pub lent: Lent,
+    pub ghost in_slots: { lent.slots ≤ length slots.now },
+    pub ghost in_pool: { lent.pool ≤ length pool.now },
+    pub ghost in_books: { lent.books ≤ length books.now },
 }
 
-// 1 where a batch is queued, else 0.
-pub fn completed(state: &[u8]) -> u32 {
-    capi_state::pw_has_completed_batch(state)
-}
-
-// What the state says; the batches queued stand in its word 10.
-pub fn counts(state: &[u8]) -> Counts {
-    Counts {
-        buffered: buffered(state),
-        queued: answers::word_at(state, 40),
-        completed: completed(state),
-        empty: capi_state::pw_is_empty(state),
-        limit: answers::answer_in(capi_state::pw_biggest_coalesce_batch_size(state)),
-    }
-}
-
-// A word of a memory overwritten, as no history would: 0 the state, 1 the slots, else the books. Answers 0.
-fn poke(state: &mut [u8], slots: &mut [u8], books: &mut [u8], x: Call) -> u64 {
-    if x.a == 0 {
-        put_word(state, x.b as usize, x.c)
-    } else if x.a == 1 {
-        put_word(slots, x.b as usize, x.c)
-    } else {
-        put_word(books, x.b as usize, x.c)
-    }
-}
-
-// The word v at a place, where there is one. Answers 0.
-fn put_word(s: &mut [u8], at: usize, v: u32) -> u64 {
-    if at < 4294967296 {
-        if at + 4 <= s.len() {
-            words::put32(s, at, v);
+impl<'a> Memories<'a> {
+    // Before the first call none is lent.
+    pub fn new(slots: &'a mut [u8], pool: &'a mut [u8], books: &'a mut [u8]) -> Memories<'a> {
+        Memories {
+            state: [0; codes::STATE_BYTES],
+            slots,
+            pool,
+            books,
+            lent: Lent {
+                slots: 0,
+                pool: 0,
+                books: 0,
+            },
         }
     }
-    0
-}
 
-// A buffer's first bytes copied to `out`; the refusal, and how many bytes the buffer has.
-pub fn buffer(
-    state: &[u8],
-    slots: &[u8],
-    pool: &[u8],
-    books: &[u8],
-    number: u32,
-    out: &mut [u8],
-) -> u64 {
-    let size = capi_reads::pw_read_buffer(state, slots, pool, books, number, out);
-    let refusal = capi_reads::pw_buffer_refusal(state, slots, pool, books, number);
-    refused(refusal) + size % 4294967296
-}
+    // A call is heard: what it lends is lent from now on, where there is room for it.
+    pub fn hear(&mut self, call: Call) -> Result<(), Wrong> {
+        if let Some(lent) = call.lent() {
+            let room = Lent {
+                slots: self.slots.len(),
+                pool: self.pool.len(),
+                books: self.books.len(),
+            };
+            lent.within(room)?;
+            self.lent = lent;
+        }
+        Ok(())
+    }
 
-// A cell of the front batch.
-pub fn cell(state: &[u8], slots: &[u8], pool: &[u8], books: &[u8], column: u32, row: u32) -> Cell {
-    let mut five = [0u8; 20];
-    let refusal = capi_reads::pw_read_row(state, slots, pool, books, column, row, &mut five);
-    answers::cell_in(refusal, &five)
-}
+    // Makes a call that changes memory, or none.
+    pub fn make(&mut self, sent: &Sent<'_, Call>) -> Answer {
+        match sent.call {
+            Call::SetUp(asked) => self.set_up(asked, sent.first),
+            Call::Register { capacity } => self.register(sent.second, capacity),
+            Call::LetGo { buffer } => self.let_go(buffer),
+            Call::Push { rows } => self.push(sent.first, sent.second, rows),
+            Call::Finish => self.finish(),
+            Call::Drop => self.drop_front(),
+            Call::Limit(limit) => done(capi_state::pw_set_biggest_coalesce_batch_size(
+                &mut self.state,
+                u32::from(limit.is_some()),
+                limit.unwrap_or(0),
+            )),
+            Call::Overwrite { place, word } => {
+                self.overwrite(place, word);
+                Ok(0)
+            }
+            _ => Ok(0),
+        }
+    }
 
-// The bytes of the buffer that a cell is in, copied to `out`, as many as it has; of any other cell none.
-pub fn buffer_of<'a>(
-    state: &[u8],
-    slots: &[u8],
-    pool: &[u8],
-    books: &[u8],
-    cell: Cell,
-    out: &'a mut [u8],
-) -> &'a [u8] {
-    if cell.kind == 2 {
-        let size = capi_reads::pw_read_buffer(state, slots, pool, books, cell.place, out);
-        answers::part(out, 0, size as usize)
-    } else {
-        answers::part(out, 0, 0)
+    // A coalescer made new, with columns of these kinds.
+    fn set_up(&mut self, asked: SetUp, kinds: &[u8]) -> Answer {
+        done(capi_set_up::pw_new(
+            &mut self.state,
+            &self.slots[..self.lent.slots],
+            &self.pool[..self.lent.pool],
+            &mut self.books[..self.lent.books],
+            kinds,
+            asked.target,
+            asked.rows,
+            asked.queue,
+            asked.lists,
+            asked.numbers,
+        ))
+    }
+
+    // A buffer registered: its number.
+    fn register(&mut self, bytes: &[u8], capacity: u32) -> Answer {
+        answer_in(capi_buffers::pw_register_buffer(
+            &self.state,
+            &self.slots[..self.lent.slots],
+            &mut self.pool[..self.lent.pool],
+            &mut self.books[..self.lent.books],
+            bytes,
+            capacity,
+        ))
+    }
+
+    // A buffer let go.
+    fn let_go(&mut self, buffer: u32) -> Answer {
+        done(capi_buffers::pw_let_go(
+            &self.state,
+            &self.slots[..self.lent.slots],
+            &self.pool[..self.lent.pool],
+            &mut self.books[..self.lent.books],
+            buffer,
+        ))
+    }
+
+    // A batch pushed.
+    fn push(&mut self, records: &[u8], body: &[u8], rows: u32) -> Answer {
+        done(capi_batches::pw_push_batch(
+            &mut self.state,
+            &mut self.slots[..self.lent.slots],
+            &mut self.pool[..self.lent.pool],
+            &mut self.books[..self.lent.books],
+            records,
+            body,
+            rows,
+        ))
+    }
+
+    // The rows buffered queued.
+    fn finish(&mut self) -> Answer {
+        done(capi_batches::pw_finish_buffered_batch(
+            &mut self.state,
+            &mut self.slots[..self.lent.slots],
+            &self.pool[..self.lent.pool],
+            &mut self.books[..self.lent.books],
+        ))
+    }
+
+    // The front batch dropped: how many rows it had.
+    fn drop_front(&mut self) -> Answer {
+        answer_in(capi_batches::pw_next_completed_batch(
+            &mut self.state,
+            &self.slots[..self.lent.slots],
+            &self.pool[..self.lent.pool],
+            &mut self.books[..self.lent.books],
+        ))
+    }
+
+    // A word of a memory overwritten, as no history would, where there is one; what is no other memory's is the books'.
+    fn overwrite(&mut self, place: Place, word: u32) {
+        let at = place.at as usize;
+        match place.memory {
+            Memory::State => answers::put_word(&mut self.state, at, word),
+            Memory::Slots => answers::put_word(&mut self.slots[..self.lent.slots], at, word),
+            Memory::Books | Memory::Pool => {
+                answers::put_word(&mut self.books[..self.lent.books], at, word)
+            }
+        }
+    }
+
+    // The rows buffered.
+    pub fn buffered(&self) -> u32 {
+        capi_state::pw_get_buffered_rows(&self.state)
+    }
+
+    // Whether a batch is queued.
+    pub fn is_completed(&self) -> bool {
+        capi_state::pw_has_completed_batch(&self.state) != 0
+    }
+
+    // What the state says; the batches queued stand in its word 10.
+    pub fn counts(&self) -> Counts {
+        Counts {
+            buffered: self.buffered(),
+            queued: answers::word_at(&self.state, 40),
+            completed: self.is_completed(),
+            empty: capi_state::pw_is_empty(&self.state) != 0,
+            limit: answers::limit_in(capi_state::pw_biggest_coalesce_batch_size(&self.state)),
+        }
+    }
+
+    // A cell of the front batch.
+    pub fn cell(&self, column: u32, row: u32) -> Result<Cell, Refusal> {
+        let mut five = [0u8; 20];
+        let slots = &*self.slots;
+        let pool = &*self.pool;
+        let books = &*self.books;
+        let refusal = capi_reads::pw_read_row(
+            &self.state,
+            &slots[..self.lent.slots],
+            &pool[..self.lent.pool],
+            &books[..self.lent.books],
+            column,
+            row,
+            &mut five,
+        );
+        match refusal {
+            0 => Ok(Cell::from(five)),
+            number => Err(Refusal(number)),
+        }
+    }
+    // A buffer's first bytes copied to `out`: how many bytes the buffer has.
+    pub fn buffer(&self, number: u32, out: &mut [u8]) -> Answer {
+        let slots = &*self.slots;
+        let pool = &*self.pool;
+        let books = &*self.books;
+        let slots = &slots[..self.lent.slots];
+        let pool = &pool[..self.lent.pool];
+        let books = &books[..self.lent.books];
+        let size = capi_reads::pw_read_buffer(&self.state, slots, pool, books, number, out);
+        done(capi_reads::pw_buffer_refusal(&self.state, slots, pool, books, number)).and(Ok(
+            (size % 4294967296) as u32,
+        ))
+    }
+
+    // The books that are lent.
+    pub fn books(&self) -> &[u8] {
+        &self.books[..self.lent.books]
+    }
+
+    // The n bytes of a memory from a place on, as they stand, or none where they are not all there.
+    pub fn bytes(&self, place: Place, n: u32) -> &[u8] {
+        let (start, n) = (place.at as usize, n as usize);
+        match place.memory {
+            Memory::State => part(&self.state, start, n),
+            Memory::Slots => part(&self.slots[..self.lent.slots], start, n),
+            Memory::Books => part(self.books(), start, n),
+            Memory::Pool => part(&self.pool[..self.lent.pool], start, n),
+        }
     }
 }

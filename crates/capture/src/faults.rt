@@ -1,101 +1,89 @@
-// What is told of input that is not a capture, or not one that a program can play: a line on standard error each. An error is one of
-// standard error.
-use crate::Came;
-use std::io;
+// What can be wrong with a capture that a program plays: a line on standard error each.
+use std::{fmt, io};
 
-// Text to standard error, a character a byte.
-fn write(rt: &impl Eprint, text: &[u8]) -> io::Result<()> {
-    for b in text {
-        eprint!(rt; "{}", char::from(*b))?;
+// What is wrong with a call.
+#[derive(Clone, Copy, Debug, PartialEq, Eq)]
+pub enum Wrong {
+    // It is none of docs/HOST.md, or none that this program knows.
+    NoKind(u32),
+    // Fewer bytes came than it has.
+    CutShort {
+        got: usize,
+        size: usize,
+    },
+    // It brings more bytes than there is room for.
+    Brings {
+        size: usize,
+        room: usize,
+    },
+    // It lends more bytes of a memory than there is room for.
+    Lends {
+        memory: &'static str,
+        lent: usize,
+        room: usize,
+    },
+    // It is a set-up of other columns than a match has.
+    OtherColumns,
+}
+
+impl fmt::Display for Wrong {
+    fn fmt<W: fmt::Write>(&self, f: &mut fmt::Formatter<W>) -> fmt::Result {
+        match self {
+            Wrong::NoKind(what) => write!(f, "is of no kind: {what}"),
+            Wrong::CutShort { got, size } => {
+                write!(f, "is cut short: {got} bytes of {size} are there")
+            }
+            Wrong::Brings { size, room } => write!(
+                f,
+                "brings {size} bytes, and this program has room for {room}"
+            ),
+            Wrong::Lends { memory, lent, room } => write!(
+                f,
+                "lends {lent} bytes of {memory}, and this program has room for {room}"
+            ),
+            Wrong::OtherColumns => f.write_str(
+                "sets up other columns than a match has: UInt64, UInt8, UInt8, Utf8View",
+            ),
+        }
     }
-    Ok(())
 }
 
-// The input ended within a header's 48 bytes. Between two calls that is as it should be; not before the first, nor where a read fails: that
-// is told, and answered.
-pub fn ended(rt: &impl Eprint, number: u64, came: Came) -> io::Result<bool> {
-    if came.failed {
-        eprintln!(rt; "capture: standard input can't be read, at call {number}")?;
-        Ok(true)
-    } else if came.count != 0 {
-        cut_short(rt, number, 48, came.count)
-    } else if number <= 1 {
-        eprintln!(rt; "capture: there is no call in it")?;
-        Ok(true)
-    } else {
-        Ok(false)
+// Why a capture is not played on, or what became of it.
+#[derive(Clone, Copy, Debug, PartialEq, Eq)]
+pub enum Fault {
+    // Standard input can't be read at this call.
+    Unreadable(u64),
+    // There is no call in it.
+    Empty,
+    // A call can't be played.
+    Call { number: u64, wrong: Wrong },
+    // Standard output takes no more.
+    OutputEnds,
+    // A match was never set up.
+    NeverSetUp,
+    // So many calls of a match were refused: what they brought is not shown.
+    Refused(u64),
+}
+
+impl fmt::Display for Fault {
+    fn fmt<W: fmt::Write>(&self, f: &mut fmt::Formatter<W>) -> fmt::Result {
+        match self {
+            Fault::Unreadable(number) => {
+                write!(f, "standard input can't be read, at call {number}")
+            }
+            Fault::Empty => f.write_str("there is no call in it"),
+            Fault::Call { number, wrong } => write!(f, "call {number} {wrong}"),
+            Fault::OutputEnds => f.write_str("standard output takes no more"),
+            Fault::NeverSetUp => f.write_str("no set-up in it was done"),
+            Fault::Refused(count) => write!(f, "calls refused: {count}"),
+        }
     }
 }
 
-// Whether fewer bytes came than a call has, which is told.
-pub fn cut_short(rt: &impl Eprint, number: u64, size: usize, got: usize) -> io::Result<bool> {
-    if got < size {
-        eprintln!(rt; "capture: call {number} is cut short: {got} bytes of {size} are there")?;
-        return Ok(true);
+// A fault, told, where there is one. An error is one of standard error.
+pub fn tell(rt: &impl Eprint, outcome: Result<(), Fault>) -> io::Result<()> {
+    match outcome {
+        Ok(()) => Ok(()),
+        Err(fault) => eprintln!(rt; "capture: {fault}"),
     }
-    Ok(false)
-}
-
-// Whether a call is none of docs/HOST.md, those up to `last` and text, which is told.
-pub fn of_no_kind(rt: &impl Eprint, number: u64, last: u32, what: u32) -> io::Result<bool> {
-    if (0 < what && what <= last) || what == 99 {
-        return Ok(false);
-    }
-    eprintln!(rt; "capture: call {number} is of no kind: {what}")?;
-    Ok(true)
-}
-
-// Whether a call brings more bytes than there is room for, which is told.
-pub fn brings_too_much(
-    rt: &impl Eprint,
-    number: u64,
-    size: usize,
-    room: usize,
-) -> io::Result<bool> {
-    if room < size {
-        eprintln!(rt;
-            "capture: call {number} brings {size} bytes, and this program has room for {room}"
-        )?;
-        return Ok(true);
-    }
-    Ok(false)
-}
-
-// Whether a call lends more bytes of a memory than there is room for, which is told.
-pub fn lends_too_much(
-    rt: &impl Eprint,
-    number: u64,
-    memory: &[u8],
-    lent: usize,
-    room: usize,
-) -> io::Result<bool> {
-    if room < lent {
-        eprint!(rt; "capture: call {number} lends {lent} bytes of ")?;
-        write(rt, memory)?;
-        eprintln!(rt; ", and this program has room for {room}")?;
-        return Ok(true);
-    }
-    Ok(false)
-}
-
-// A set-up of other columns than a match has.
-pub fn other_columns(rt: &impl Eprint, number: u64) -> io::Result<()> {
-    eprintln!(rt;
-        "capture: call {number} sets up other columns than a match has: UInt64, UInt8, UInt8, Utf8View"
-    )
-}
-
-// Standard output takes no more.
-pub fn output_ends(rt: &impl Eprint) -> io::Result<()> {
-    eprintln!(rt; "capture: standard output takes no more")
-}
-
-// A match that was never set up.
-pub fn never_set_up(rt: &impl Eprint) -> io::Result<()> {
-    eprintln!(rt; "capture: no set-up in it was done")
-}
-
-// Calls of a match that were refused: what they brought is not shown.
-pub fn calls_refused(rt: &impl Eprint, count: u64) -> io::Result<()> {
-    eprintln!(rt; "capture: calls refused: {count}")
 }

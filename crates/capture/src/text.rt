@@ -1,25 +1,9 @@
-// What programs that play a capture write with: text, numbers, and bytes that a screen may have. An error is one of standard output.
+// Bytes from outside, as a screen may have them.
 ghost use Rattle.std.specs.Prelude.{◌<◌, ◌≡◌};
 
 use std::io;
 
-// Bytes written.
-pub fn write(rt: &impl Print, text: &[u8]) -> io::Result<()> {
-    rt.write_all(text)
-}
-
-// Bytes, and a number behind them.
-pub fn say(rt: &impl Print, text: &[u8], number: u32) -> io::Result<()> {
-    rt.write_all(text)?;
-    print!(rt; "{number}")
-}
-
-// The end of a line.
-pub fn end_line(rt: &impl Print) -> io::Result<()> {
-    rt.write_all(b"\n")
-}
-
-// Bytes from outside, as a screen may have them: `?` for each control byte.
+// Bytes with `?` for each control byte. An error is one of standard output.
 pub fn show(rt: &impl Print, text: &[u8]) -> io::Result<()> {
     let mut before: u8 = 0;
     for b in text {
@@ -34,17 +18,9 @@ pub fn show(rt: &impl Print, text: &[u8]) -> io::Result<()> {
 fn shown(before: u8, b: u8) -> u8
     ensures { (31 < result) × (result ≡ 127 → ⊥) }
 {
-    if b < 32 {
-        b'?'
-    } else if b < 127 {
-        b
-    } else if b < 128 {
-        b'?'
-    } else if 159 < b {
-        b
-    } else if before < 128 || before == 194 {
-        b'?'
-    } else {
-        b
+    match b {
+        0..=31 | 127 => b'?',
+        128..=159 if before < 128 || before == 194 => b'?',
+        _ => b,
     }
 }

@@ -2,27 +2,16 @@
 // time; prints each batch that completes as a table, in order, and drops it.
 #![tactic(auto)]
 
-use player::Job;
+use calls::{Memories, memory};
+use player::Table;
 use std::io;
 
-// Room for the slots, the pool, the books, a buffer, or the bytes of a call.
-fn new_memory() -> [u8; 65536] {
-    [0; 65536]
-}
-
 fn main(rt: HostRuntime) -> io::Result<()> {
-    let mut slots = new_memory();
-    let mut pool = new_memory();
-    let mut books = new_memory();
-    let mut bytes = new_memory();
-    let mut scratch = new_memory();
-    player::play(
-        &rt,
-        Job::Table,
-        &mut slots,
-        &mut pool,
-        &mut books,
-        &mut bytes,
-        &mut scratch,
-    )
+    let mut slots = memory::<65536>();
+    let mut pool = memory::<65536>();
+    let mut books = memory::<65536>();
+    let mut bytes = memory::<65536>();
+    let mut scratch = memory::<65536>();
+    let memories = Memories::new(&mut slots, &mut pool, &mut books);
+    turns::play(&rt, &mut Table::new(memories, &mut scratch), &mut bytes)
 }

@@ -2,32 +2,16 @@
 // rows of each batch that is dropped.
 #![tactic(auto)]
 
-use player::Job;
+use calls::{Memories, memory};
+use player::Lines;
 use std::io;
 
-// Room for the slots, the books, or the bytes of a call.
-fn new_memory() -> [u8; 65536] {
-    [0; 65536]
-}
-
-// Room for the pool, and for a buffer.
-fn new_pool() -> [u8; 300000] {
-    [0; 300000]
-}
-
 fn main(rt: HostRuntime) -> io::Result<()> {
-    let mut slots = new_memory();
-    let mut pool = new_pool();
-    let mut books = new_memory();
-    let mut bytes = new_memory();
-    let mut scratch = new_pool();
-    player::play(
-        &rt,
-        Job::Telling,
-        &mut slots,
-        &mut pool,
-        &mut books,
-        &mut bytes,
-        &mut scratch,
-    )
+    let mut slots = memory::<65536>();
+    let mut pool = memory::<300000>();
+    let mut books = memory::<65536>();
+    let mut bytes = memory::<65536>();
+    let mut scratch = memory::<300000>();
+    let memories = Memories::new(&mut slots, &mut pool, &mut books);
+    turns::play(&rt, &mut Lines::new(memories, &mut scratch), &mut bytes)
 }

@@ -2,41 +2,17 @@
 // is out on each side, and who comes back next.
 #![tactic(auto)]
 
+use calls::{Memories, memory};
 use std::io;
 use std::io::IsTerminal;
-
-// Room for the slots, the pool, the books, the bytes of a call, or the answers of a batch's rows.
-fn new_memory() -> [u8; 65536] {
-    [0; 65536]
-}
-
-// Room for the strip.
-fn strip_memory() -> [u8; 972] {
-    [0; 972]
-}
-
-// Room for a frame with a line for each row of a batch.
-fn text_memory() -> [u8; 400000] {
-    [0; 400000]
-}
+use strip_player::Strip;
 
 fn main(rt: HostRuntime) -> io::Result<()> {
-    let mut slots = new_memory();
-    let mut pool = new_memory();
-    let mut books = new_memory();
-    let mut bytes = new_memory();
-    let mut strip = strip_memory();
-    let mut numbers = new_memory();
-    let mut text = text_memory();
-    strip_player::play(
-        &rt,
-        rt.stdout().is_terminal(),
-        &mut slots,
-        &mut pool,
-        &mut books,
-        &mut bytes,
-        &mut strip,
-        &mut numbers,
-        &mut text,
-    )
+    let mut slots = memory::<65536>();
+    let mut pool = memory::<65536>();
+    let mut books = memory::<65536>();
+    let mut bytes = memory::<65536>();
+    let memories = Memories::new(&mut slots, &mut pool, &mut books);
+    let in_place = rt.stdout().is_terminal();
+    turns::play(&rt, &mut Strip::new(memories, in_place), &mut bytes)
 }

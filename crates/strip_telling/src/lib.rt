@@ -1,142 +1,140 @@
-// Plays the capture on standard input and tells what every call answers, those on the strip (15 to 20) among them: for the program `strip_edges`.
+// Tells what every call of the capture on standard input answers, those on the strip (15 to 20) among them: for the program `strip_edges`.
 #![tactic(auto)]
 
+mod sent;
 mod told;
 
-use answers::part;
-use capture::{Fetched, Lent};
+use answers::{Answer, answer_in, done, put_word};
+use calls::{Memories, memory};
+use capture::{Fault, Sent, Wrong};
+use sent::Call;
 use std::io;
-use turns::{Turn, Went};
+use told::Rows;
+use turns::Player;
 
-// A turn, and how many bytes of the strip and of the rows' answers are lent.
-#[derive(Clone, Copy)]
-pub struct Held {
-    pub turn: Turn,
-    pub strip: usize,
-    pub numbers: usize,
-}
-
-// Plays the capture, call after call, until there is none, or one that these memories have no room for: that is told. An error is one
-// of standard error.
-pub fn play(
-    rt: &(impl Input + Print + Eprint),
-    slots: &mut [u8],
-    pool: &mut [u8],
-    books: &mut [u8],
-    bytes: &mut [u8],
-    strip: &mut [u8],
-    numbers: &mut [u8],
-) -> io::Result<()> {
-    let mut state = [0u8; codes::STATE_BYTES];
-    let room = Lent {
-        slots: slots.len(),
-        pool: pool.len(),
-        books: books.len(),
-    };
-    let mut held = Held {
-        turn: turns::first(),
-        strip: 972,
-        numbers: 64,
-    };
-    let mut left: u64 = 18446744073709551615;
-    while 0 < left {
-        held = one_turn(
-            rt, held, room, &mut state, slots, pool, books, bytes, strip, numbers,
-        )?;
-        left = turns::left_after(left, held.turn.more);
-    }
-    Ok(())
-}
-
-// One turn: the capture's next call is made and told.
-fn one_turn(
-    rt: &(impl Input + Print + Eprint),
-    held: Held,
-    room: Lent,
-    state: &mut [u8],
-    slots: &mut [u8],
-    pool: &mut [u8],
-    books: &mut [u8],
-    bytes: &mut [u8],
-    strip: &mut [u8],
-    numbers: &mut [u8],
-) -> io::Result<Held> {
-    let turn = held.turn;
-    let f = next_call(rt, turn.number, room, bytes)?;
-    let lent = capture::lent_after(turn.lent, f);
-    let s = turns::front(slots, lent.slots);
-    let p = turns::front(pool, lent.pool);
-    let k = turns::front(books, lent.books);
-    let n = turns::front(numbers, held.numbers);
-    let went = one_call(rt, state, s, p, k, bytes, strip, held.strip, n, f)?;
-    Ok(after(held, lent, f, went))
-}
-
-// The next call of the capture.
-fn next_call(
-    rt: &(impl Input + Eprint),
-    number: u64,
-    room: Lent,
-    bytes: &mut [u8],
-) -> io::Result<Fetched> {
-    let f = capture::fetch(rt, number, 20, bytes)?;
-    if turns::has_room(rt, number, room, f)? {
-        Ok(f)
-    } else {
-        Ok(capture::the_end())
-    }
-}
-
-// The turn behind a call: call 18 lends other lengths of the strip's memories.
-fn after(held: Held, lent: Lent, f: Fetched, went: Went) -> Held {
-    let x = f.call;
-    let turn = turns::after(held.turn, false, f, lent, went);
-    if x.what == 18 {
-        return Held {
-            turn,
-            strip: x.a as usize,
-            numbers: x.b as usize,
-        };
-    }
-    Held {
-        turn,
-        strip: held.strip,
-        numbers: held.numbers,
-    }
-}
-
-// One call, made and told: on the strip, or on the coalescer.
-fn one_call(
-    rt: &(impl Print + Eprint),
-    state: &mut [u8],
-    slots: &mut [u8],
-    pool: &mut [u8],
-    books: &mut [u8],
-    bytes: &[u8],
-    strip: &mut [u8],
+// It hears every call. The strip's memories are its own: as many bytes of them are lent as `size` and `rows` say, or all.
+#[derive(Drop)]
+pub struct Strip<'m> {
+    memories: Memories<'m>,
+    strip: [u8; 1024],
+    numbers: [u8; 64],
     size: usize,
-    numbers: &mut [u8],
-    f: Fetched,
-) -> io::Result<Went> {
-    if !f.more {
-        return Ok(turns::over(f));
+    rows: usize,
+}
+
+// The first n bytes of a memory, or all where there are fewer.
+fn front(s: &mut [u8], n: usize) -> &mut [u8] {
+    if n <= s.len() { &mut s[..n] } else { s }
+}
+
+// The front batch read into the strip, and left where it is: how many rows it has.
+fn read(m: &mut Memories<'_>, strip: &mut [u8], numbers: &mut [u8]) -> Answer {
+    answer_in(capi_strip::pw_strip_read(
+        &m.state,
+        &m.slots[..m.lent.slots],
+        &m.pool[..m.lent.pool],
+        &m.books[..m.lent.books],
+        strip,
+        numbers,
+    ))
+}
+
+// The front batch taken into the strip: how many rows it had.
+fn take(m: &mut Memories<'_>, strip: &mut [u8], numbers: &mut [u8]) -> Answer {
+    answer_in(capi_strip::pw_strip_take(
+        &mut m.state,
+        &m.slots[..m.lent.slots],
+        &m.pool[..m.lent.pool],
+        &mut m.books[..m.lent.books],
+        strip,
+        numbers,
+    ))
+}
+
+impl<'m> Strip<'m> {
+    // Before the first call.
+    pub fn new(memories: Memories<'m>) -> Strip<'m> {
+        Strip {
+            memories,
+            strip: memory(),
+            numbers: memory(),
+            size: 972,
+            rows: 64,
+        }
     }
-    let x = f.call;
-    let second = part(bytes, f.first, f.second);
-    if 15 <= x.what && x.what <= 20 {
-        let told = told::strip_call(rt, state, slots, pool, books, strip, size, numbers, x);
-        return turns::made(rt, told, 0);
+
+    // A read or a take, told.
+    fn tell<R: Print>(&self, rt: &R, name: &'static str, answer: Answer) -> io::Result<()> {
+        println!(rt;
+            "{}",
+            Rows {
+                name,
+                answer,
+                counts: self.memories.counts(),
+                strip: &self.strip,
+                numbers: &self.numbers[..self.rows.min(64)],
+            }
+        )
     }
-    let answer = calls::make(
-        state,
-        slots,
-        pool,
-        books,
-        part(bytes, 0, f.first),
-        second,
-        x,
-    );
-    let counts = calls::counts(state);
-    let told = telling::line(rt, x, second, answers::answer_in(answer), counts);
-    turns::made(rt, told, answer)
+}
+
+impl Player for Strip<'_> {
+    type Call = Call;
+
+    fn hear(&mut self, sent: &Sent<'_, Call>) -> Result<(), Wrong> {
+        match sent.call {
+            Call::Coalescer(call) => self.memories.hear(call),
+            Call::Lend { strip, numbers } => {
+                self.size = strip as usize;
+                self.rows = numbers as usize;
+                Ok(())
+            }
+            _ => Ok(()),
+        }
+    }
+
+    fn make<R: Print>(&mut self, rt: &R, sent: &Sent<'_, Call>) -> io::Result<()> {
+        let (size, rows) = (self.size, self.rows);
+        match sent.call {
+            Call::Coalescer(call) => {
+                let sent = Sent {
+                    call,
+                    first: sent.first,
+                    second: sent.second,
+                };
+                let answer = self.memories.make(&sent);
+                telling::line(rt, &sent, answer, self.memories.counts())
+            }
+            Call::New => {
+                let answer = done(capi_strip::pw_strip_new(front(&mut self.strip, size)));
+                println!(rt; "new strip{}", telling::Told(answer))
+            }
+            Call::Read => {
+                let answer = read(
+                    &mut self.memories,
+                    front(&mut self.strip, size),
+                    front(&mut self.numbers, rows),
+                );
+                self.tell(rt, "read", answer)
+            }
+            Call::Take => {
+                let answer = take(
+                    &mut self.memories,
+                    front(&mut self.strip, size),
+                    front(&mut self.numbers, rows),
+                );
+                self.tell(rt, "take", answer)
+            }
+            Call::Lend { .. } => Ok(()),
+            Call::ShowBytes { place, count } => told::show_bytes(rt, &self.strip, place, count),
+            Call::Overwrite { place, word } => {
+                put_word(&mut self.strip, place as usize, word);
+                Ok(())
+            }
+        }
+    }
+
+    fn verdict(&self) -> Result<(), Fault> {
+        Ok(())
+    }
 }

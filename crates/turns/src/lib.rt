@@ -1,215 +1,136 @@
-// A turn of a program that plays a capture: what it keeps from one call to the next, the next call, and whether that can be played.
+// A capture played, call after call, by a program that says what it does with each.
 #![tactic(auto)]
 
-ghost use Rattle.std.specs.Prelude.{◌<◌};
-
-use answers::part;
-use capture::{Fetched, Lent};
+use answers::Answer;
+use capture::{Call, Fault, Header, Sent, Wrong};
 use std::io;
 
-// Whether there is more to play, and where there is not whether that was told; the number of the capture's next call; whether a program's own drop
-// was just refused; how many bytes of each memory are lent; whether a set-up was done, and how many calls were refused.
-#[derive(Clone, Copy)]
-pub struct Turn {
-    pub more: bool,
-    pub told: bool,
-    pub number: u64,
-    pub stuck: bool,
-    pub lent: Lent,
-    pub begun: bool,
-    pub refused: u64,
-}
+// What a program does with a capture. Where something is written an error is one of standard output.
+pub trait Player {
+    // The calls that it knows.
+    type Call: TryFrom<Header, Error = Wrong> + Copy;
 
-// Before the first call.
-pub fn first() -> Turn {
-    Turn {
-        more: true,
-        told: false,
-        number: 1,
-        stuck: false,
-        lent: none_lent(),
-        begun: false,
-        refused: 0,
+    // Takes the front batch by itself, ahead of the capture's next call, where it does so and one is complete.
+    fn take<R: Print>(&mut self, _rt: &R) -> io::Result<Option<Answer>> {
+        Ok(None)
     }
-}
 
-// No memory is lent.
-fn none_lent() -> Lent {
-    Lent {
-        slots: 0,
-        pool: 0,
-        books: 0,
-    }
-}
+    // Hears a call before it is made, and lends what it lends: what is wrong with it.
+    fn hear(&mut self, sent: &Sent<'_, Self::Call>) -> Result<(), Wrong>;
 
-// What became of a call: whether the capture goes on, where it does not whether that was told, and whether the call was refused.
-#[derive(Clone, Copy)]
-pub struct Went {
-    pub on: bool,
-    pub told: bool,
-    pub refused: bool,
-}
+    // Makes a call, and writes what is shown of it.
+    fn make<R: Print>(&mut self, rt: &R, sent: &Sent<'_, Self::Call>) -> io::Result<()>;
 
-// There was no call.
-pub fn over(f: Fetched) -> Went {
-    Went {
-        on: false,
-        told: f.told,
-        refused: false,
-    }
-}
-
-// A call was made and its line written; where that could not be it was the last, and that is told. An error is one of standard error.
-pub fn made(rt: &impl Eprint, written: io::Result<()>, answer: u64) -> io::Result<Went> {
-    let on = written.is_ok();
-    if !on {
-        capture::output_ends(rt)?;
-    }
-    Ok(Went {
-        on,
-        told: !on,
-        refused: 4294967296 <= answer,
-    })
-}
-
-// The turn behind call f: `ours` where it was a program's own drop, else it was the capture's next call.
-pub fn after(turn: Turn, ours: bool, f: Fetched, lent: Lent, went: Went) -> Turn {
-    Turn {
-        more: went.on,
-        told: went.told,
-        number: next(turn.number, !ours),
-        stuck: ours & went.refused,
-        lent,
-        begun: turn.begun | ((f.call.what == 1) & !went.refused),
-        refused: next(turn.refused, went.refused),
-    }
-}
-
-// What is told when the capture of a match is over: that nothing was set up, or that calls were refused. An error is one of
-// standard error.
-pub fn end_of_match(rt: &impl Eprint, turn: Turn) -> io::Result<()> {
-    if turn.told {
+    // Writes what stands behind the last call.
+    fn end<R: Print>(&self, _rt: &R) -> io::Result<()> {
         Ok(())
-    } else if !turn.begun {
-        capture::never_set_up(rt)
-    } else if 0 < turn.refused {
-        capture::calls_refused(rt, turn.refused)
-    } else {
+    }
+
+    // What there is to tell of the capture when all of it was played.
+    fn verdict(&self) -> Result<(), Fault> {
         Ok(())
     }
 }
 
-// The number behind one, where it counts.
-fn next(number: u64, counts: bool) -> u64 {
-    if counts {
-        if number < 18446744073709551615 {
-            return number + 1;
-        }
-    }
-    number
-}
-
-// Whether there is room for the memories that a call lends; where there is not, that is told. An error is one of standard error.
-pub fn has_room(rt: &impl Eprint, number: u64, room: Lent, f: Fetched) -> io::Result<bool> {
-    let lent = capture::lent_after(none_lent(), f);
-    if capture::lends_too_much(rt, number, b"slots", lent.slots, room.slots)? {
-        return Ok(false);
-    }
-    if capture::lends_too_much(rt, number, b"the pool", lent.pool, room.pool)? {
-        return Ok(false);
-    }
-    let too_much = capture::lends_too_much(rt, number, b"books", lent.books, room.books)?;
-    Ok(!too_much)
-}
-
-// The next call to make: `ours`, a program's own drop of a batch, or the next of the capture, as the program hears it. An
-// error is one of standard error.
-pub fn next_call(
-    rt: &(impl Input + Eprint),
-    of_match: bool,
-    ours: bool,
-    number: u64,
-    room: Lent,
+// Plays the capture on standard input until there is no call, or one that can't be played: that is told. `bytes` is for what a call brings. An error
+// is one of standard error.
+pub fn play<P: Player>(
+    rt: &(impl Input + Print + Eprint),
+    player: &mut P,
     bytes: &mut [u8],
-) -> io::Result<Fetched> {
-    if ours {
-        return Ok(capture::a_drop());
-    }
-    let f = capture::fetch(rt, number, 14, bytes)?;
-    if has_room(rt, number, room, f)? {
-        heard(rt, of_match, number, f, part(bytes, 0, f.first))
-    } else {
-        Ok(capture::the_end())
+) -> io::Result<()> {
+    let played = all_calls(rt, player, bytes);
+    capture::tell(rt, played)?;
+    capture::tell(rt, written(player.end(rt)))?;
+    match played {
+        Ok(()) => capture::tell(rt, player.verdict()),
+        Err(_) => Ok(()),
     }
 }
 
-// A call as a program hears it. That of a match hears set-up with a match's columns, changes of a batch and loans of memory; others pass, as
-// text would.
-fn heard(
-    rt: &impl Eprint,
-    of_match: bool,
-    number: u64,
-    f: Fetched,
-    first: &[u8],
-) -> io::Result<Fetched> {
-    if of_match {
-        if f.call.what == 1 {
-            return set_up_of_match(rt, number, f, first);
+// Call after call. Where a batch that the program takes by itself was just refused the capture goes on first.
+fn all_calls<P: Player>(
+    rt: &(impl Input + Print),
+    player: &mut P,
+    bytes: &mut [u8],
+) -> Result<(), Fault> {
+    let mut number: u64 = 1;
+    let mut stuck = false;
+    for _ in 0..u64::MAX {
+        let taken = if stuck {
+            None
+        } else {
+            written(player.take(rt))?
+        };
+        if let Some(answer) = taken {
+            stuck = answer.is_err();
+        } else if one_call(rt, player, number, bytes)? {
+            number = number.saturating_add(1);
+            stuck = false;
+        } else {
+            break;
         }
-        return Ok(no_test(f));
     }
-    Ok(f)
+    Ok(())
 }
 
-// A set-up, where it has a match's columns; else none, and that is told.
-fn set_up_of_match(rt: &impl Eprint, number: u64, f: Fetched, kinds: &[u8]) -> io::Result<Fetched> {
-    if is_match(kinds) {
-        Ok(f)
-    } else {
-        capture::other_columns(rt, number)?;
-        Ok(capture::the_end())
+// The capture's next call, heard and made; whether there is one.
+fn one_call<P: Player>(
+    rt: &(impl Input + Print),
+    player: &mut P,
+    number: u64,
+    bytes: &mut [u8],
+) -> Result<bool, Fault> {
+    let Some(sent) = capture::fetch::<P::Call>(rt, number, bytes)? else {
+        return Ok(false);
+    };
+    if let Err(wrong) = player.hear(&sent) {
+        return Err(Fault::Call { number, wrong });
     }
+    written(player.make(rt, &sent))?;
+    Ok(true)
 }
 
-// A call, or text in the place of one that is for tests.
-fn no_test(f: Fetched) -> Fetched {
-    let mut call = f.call;
-    if 7 < call.what && call.what != 13 {
-        call.what = 99;
+// What was written; where that could not be, standard output has ended.
+fn written<T: Drop>(outcome: io::Result<T>) -> Result<T, Fault> {
+    outcome.map_err(|_| Fault::OutputEnds)
+}
+
+// What became of a match: whether a set-up was done, and how many calls were refused.
+#[derive(Clone, Copy, Debug, Default)]
+pub struct Tally {
+    begun: bool,
+    refused: u64,
+}
+
+impl Tally {
+    // A call of the match is counted with its answer.
+    pub fn count(&mut self, call: Call, answer: Answer) {
+        match answer {
+            Ok(_) => self.begun |= matches!(call, Call::SetUp(_)),
+            Err(_) => self.refused = self.refused.saturating_add(1),
+        }
     }
-    Fetched {
-        more: f.more,
-        told: f.told,
-        call,
-        first: f.first,
-        second: f.second,
+
+    // That nothing was set up, or that calls were refused.
+    pub fn verdict(&self) -> Result<(), Fault> {
+        if !self.begun {
+            Err(Fault::NeverSetUp)
+        } else if 0 < self.refused {
+            Err(Fault::Refused(self.refused))
+        } else {
+            Ok(())
+        }
     }
 }
 
 // The kinds of a match's columns, a word each as set-up has them: UInt64, UInt8, UInt8, Utf8View.
-fn is_match(kinds: &[u8]) -> bool {
-    if kinds.len() == 16 {
-        (words::get32(kinds, 0) == 8)
-            & (words::get32(kinds, 4) == 5)
-            & (words::get32(kinds, 8) == 5)
-            & (words::get32(kinds, 12) == 18)
-    } else {
-        false
-    }
-}
+const KINDS: [u8; 16] = [8, 0, 0, 0, 5, 0, 0, 0, 5, 0, 0, 0, 18, 0, 0, 0];
 
-// One turn less, of more than any capture has calls; none where there is no more call.
-pub fn left_after(left: u64, more: bool) -> u64
-    requires { 0 < left }
-    ensures { result < left }
-{
-    if more { left - 1 } else { 0 }
-}
-
-// The first n bytes of a memory, or all where there are fewer.
-pub fn front(s: &mut [u8], n: usize) -> &mut [u8] {
-    if n <= s.len() {
-        return &mut s[0..n];
+// Nothing is wrong with a call for a match, where a set-up has a match's columns.
+pub fn of_match(sent: &Sent<'_, Call>) -> Result<(), Wrong> {
+    match sent.call {
+        Call::SetUp(_) if sent.first != KINDS.as_slice() => Err(Wrong::OtherColumns),
+        _ => Ok(()),
     }
-    s
 }
