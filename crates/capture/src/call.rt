@@ -1,4 +1,5 @@
 // The calls of docs/HOST.md that are made on the coalescer, a line of text among them, and what a program is sent of each.
+use counts::RowCount;
 use crate::{Header, Lent, Wrong};
 use std::fmt;
 
@@ -60,7 +61,7 @@ pub enum Call {
     Push { rows: u32 },
     Finish,
     Drop,
-    Limit(Option<u32>),
+    Option<RowCount>(Option<u32>),
     ReadRow { column: u32, row: u32 },
     ReadBuffer { buffer: u32 },
     Counts,
