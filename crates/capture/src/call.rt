@@ -1,5 +1,4 @@
 // The calls of docs/HOST.md that are made on the coalescer, a line of text among them, and what a program is sent of each.
-use counts::RowCount;
 use crate::{Header, Lent, Wrong};
 use std::fmt;
 
@@ -61,7 +60,7 @@ pub enum Call {
     Push { rows: u32 },
     Finish,
     Drop,
-    Option<RowCount>(Option<u32>),
+    Limit(Option<u32>),
     ReadRow { column: u32, row: u32 },
     ReadBuffer { buffer: u32 },
     Counts,
