@@ -5,7 +5,7 @@ import re
 
 # what a borrow is when a call begins, when it ends; what a shared one is; and where it points
 BORROW = {'old', 'new', 'now', 'entry', 'ref_ptr'}
-PRIMITIVE = {'u8', 'u16', 'u32', 'u64', 'u128', 'usize', 'bool', 'mut', 'pub'}
+PRIMITIVE = {'u8', 'u16', 'u32', 'u64', 'u128', 'usize', 'bool', 'mut', 'pub', 'Option', 'Result', 'static', 'str'}
 HEAD = re.compile(r'^( *)(unfoldable pub|unfoldable|abbrev pub|abbrev|pub record|record|pub data|data|pub) +(.+)$')
 PLAIN = re.compile(r'^( *)([^\s(){}=:.,;|]+)((?: \{[^}]*\})*) :(?: |$)')
 

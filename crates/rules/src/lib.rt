@@ -26,7 +26,7 @@ pub enum Way {
     Compacted,
 }
 
-// A fault of a batch: its number, the column and the row where it is (0 where it is none's); number 0 where there is none.
+// A fault of a batch: its number, 2 to 7, the column and the row where it is, 0 where it is none's.
 #[derive(Clone, Copy)]
 pub struct Fault {
     pub number: u32,
