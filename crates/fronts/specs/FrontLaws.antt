@@ -1,9 +1,8 @@
 -- One law for each exit of the call on the front batch, and for what is put in bytes.
-use Rattle.std.specs.Prelude.{ℕ, zero, suc, ◌+◌, ◌*◌, ◌%◌, ◌/◌, ◌≡◌, List, [], length}
+use Rattle.std.specs.Prelude.{ℕ, zero, suc, ◌+◌, ◌*◌, ◌≡◌, List, [], length}
 use Rattle.std.proofs.Math.Path.{refl}
 use Rattle.std.proofs.Common.{sym, ◌∙◌, ap}
 use borrow.Author.Tests.{eq-eqb, ne_eqb}
-use Rattle.words.specs.Word.{with_word32}
 use Rattle.counts.specs.declared.RowCount.{RowCount}
 use Rattle.state.specs.declared.BatchCoalescer.{BatchCoalescer}
 use Rattle.state.specs.World.{World, world}
@@ -13,10 +12,6 @@ use Rattle.fronts.specs.Front.{front_refusal, front_rows, front_column, with_lon
 use Rattle.fronts.specs.Fronts.{FrontsCall}
 
 -- ---- bytes
-
-pub long_is : (out : List ℕ) (at v : ℕ) {a b : List ℕ} → a ≡ with_word32 out at (v % 4294967296) → b ≡ with_word32 a (at + 4) (v / 4294967296) → b ≡ with_long out at v
-unfolding with_long
-long_is out at v p q = rw (q, p)
 
 pub places_are : (out : List ℕ) (at values bitmap list : ℕ) {a b d : List ℕ} → a ≡ with_long out at values → b ≡ with_long a (at + 8) bitmap → d ≡ with_long b (at + 16) list → d ≡ places_put out at values bitmap list
 unfolding places_put

@@ -25,8 +25,7 @@ fn put_long(out: &mut [u8], at: usize, v: usize)
     requires { at + 8 ≤ length out.old }
     ensures { out.new ≡ with_long out.old at v }
 {
-    words::put32(out, at, (v % 4294967296) as u32);
-    words::put32(out, at + 4, (v / 4294967296) as u32);
+    out[at..at + 8].copy_from_slice(&(v as u64).to_le_bytes());
 }
 
 // Three places.

@@ -21,6 +21,7 @@ use rules::{Step, Way};
 use state::BatchCoalescer;
 
 // copy_rows on trial of every column: n rows from `from` on, which are then buffered.
+// Kept: apart from steps::copy_part, as one function for both takes a closure a step, over memories that a trial is not lent: no plainer.
 fn try_part(
     s: BatchCoalescer,
     books: &mut [u8],

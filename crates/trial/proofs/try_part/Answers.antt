@@ -29,8 +29,5 @@ loop-c-preserved c = (c.loop-c.invariant.0, tries_length (column_trans c.loop-c.
 pub returns-then-step-ne0 : goal.returns-then-step-ne0
 returns-then-step-ne0 c = (part_refused c.args.n.0 c.loop-c.invariant.2 c.try_column-step.ensures.0 c.if-step-ne0.true, part_stops c.loop-c.invariant.3 c.loop-c.invariant.2.tries.set_up c.loop-c-test.true c.record_at-r.ensures c.try_column-step.ensures.1 c.if-step-ne0.true)
 
-pub overflow_add-buffered : goal.overflow_add-buffered
-overflow_add-buffered c = omega (arith, c.requires.2)
-
 pub returns : goal.returns
 returns c = (part_done c.args.n.0 c.loop-c.invariant.2, part_tells c.loop-c.invariant.3 (omega (arith, c.loop-c-test.false)) c.loop-c.invariant.2.buffered)

@@ -9,15 +9,6 @@ use Rattle.trial.proofs.try_rows.Goals as goal
 pub loop-t-init : goal.loop-t-init
 loop-t-init c = (omega arith, c.requires.2, refl, tries_none c.requires.0, cut_first _ _ _ _)
 
-pub overflow_sub-t : goal.overflow_sub-t
-overflow_sub-t c = omega (arith, c.loop-t.invariant.1)
-
-pub overflow_sub-rows : goal.overflow_sub-rows
-overflow_sub-rows c = omega (arith, c.loop-t.invariant.0)
-
-pub overflow_sub-n : goal.overflow_sub-n
-overflow_sub-n c = omega (arith, c.loop-t.invariant.1)
-
 pub try_and_finish-step-requires : goal.try_and_finish-step-requires
 try_and_finish-step-requires c = (
   c.loop-t.invariant.3.trying,
@@ -28,17 +19,8 @@ try_and_finish-step-requires c = (
 pub returns-then-step-ne0 : goal.returns-then-step-ne0
 returns-then-step-ne0 c = (turn_marks c.loop-t.invariant.3 c.try_and_finish-step.ensures.0, cut_stops c.loop-t.invariant.4 c.loop-t-test.true c.loop-t.invariant.1 c.try_and_finish-step.ensures.1 c.if-step-ne0.true)
 
-pub overflow_add-from : goal.overflow_add-from
-overflow_add-from c = omega (arith, c.loop-t-test.true, c.loop-t.invariant.0, c.requires.1.rows_fit)
-
-pub loop-t-smaller : goal.loop-t-smaller
-loop-t-smaller c = omega (arith, c.loop-t-test.true, c.loop-t.invariant.1)
-
 pub loop-t-preserved : goal.loop-t-preserved
 loop-t-preserved c = (omega (arith, c.loop-t-test.true, c.loop-t.invariant.0), turn_below c.loop-t.invariant.1 c.try_and_finish-step.ensures.0 c.if-step-ne0.false, tries_length (turn-done c.loop-t.invariant.3 c.try_and_finish-step.ensures.0), turn-done c.loop-t.invariant.3 c.try_and_finish-step.ensures.0, cut_more c.loop-t.invariant.4 c.loop-t-test.true c.loop-t.invariant.1 c.try_and_finish-step.ensures.1 c.try_and_finish-step.ensures.0.tries.set_up c.if-step-ne0.false)
-
-pub overflow_sub-rows-2 : goal.overflow_sub-rows-2
-overflow_sub-rows-2 c = omega (arith, c.loop-t.invariant.0)
 
 pub try_and_finish-requires : goal.try_and_finish-requires
 try_and_finish-requires c = (
