@@ -1,6 +1,5 @@
 -- The ways out of the strip's calls on bytes.
-use Rattle.std.specs.Prelude.{ℕ, ◌≡◌, refl, List}
-use Rattle.std.proofs.Common.{sym, ◌∙◌, ap}
+use Rattle.std.specs.Prelude.{ℕ, ◌≡◌, List}
 use borrow.Author.Tests.{eq-eqb, ne_eqb}
 use Rattle.state.specs.World.{world}
 use Rattle.outs.specs.Coding.{new_fault, new_leaves}

@@ -1,7 +1,6 @@
 -- One law for each exit of a row taken, and for a turn of the loop over rows.
 use Rattle.std.specs.Prelude.{ℕ, ◌+◌, ◌-◌, ◌*◌, ◌≤◌, ◌<◌, ◌≡◌, Bool, true, false, cond, List, length, get_or, take, drop, eqb, ltb}
-use Rattle.std.proofs.Common.{sym, ◌∙◌, ap, arith, Fits}
-use Rattle.std.specs.Int.{w8}
+use Rattle.std.proofs.Common.{sym, ◌∙◌, ap, arith}
 use Rattle.words.specs.Run.{read}
 use Rattle.words.specs.RunLaws.{part_read}
 use Rattle.words.specs.WordLaws.{Bytes}

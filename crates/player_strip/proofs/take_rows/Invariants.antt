@@ -3,7 +3,6 @@ use Rattle.player_strip.specs.AlongLaws.{Along}
 use Rattle.words.specs.WordLaws.{Bytes}
 use lib.ListN.{length}
 use mathlib.Core.Path.{◌≡◌}
-use Prim.Native.Nat.{◌≤◌}
 use Rattle.player_strip.proofs.take_rows.Given as goal
 
 abbrev pub invariant-loop-i : goal.invariant-loop-i
