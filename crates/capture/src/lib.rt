@@ -131,6 +131,7 @@ fn fetch_runs<'a, C: TryFrom<Header, Error = Wrong> + Copy>(
 // Reads until a memory is full, the input ends or a read fails; answers how many bytes came.
 fn read_full(input: &mut impl Read, s: &mut [u8]) -> Result<usize, Failed> {
     let mut count: usize = 0;
+    // Kept: `read_exact` does not say how many bytes came.
     while count < s.len() {
         match input.read(&mut s[count..]) {
             Ok(0) => break,

@@ -6,6 +6,7 @@ use calls::{Memories, memory};
 use player::Lines;
 use std::io;
 
+// Kept: beside `edges`, of other lengths; one function over the lengths would ask for a `requires` on each.
 fn main(rt: HostRuntime) -> io::Result<()> {
     let mut slots = memory::<65536>();
     let mut pool = memory::<300000>();
