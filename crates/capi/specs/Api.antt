@@ -1,12 +1,14 @@
 -- What each call of the C layer answers, and the bytes of every memory after it: docs/HOST.md, "Functions".
-use Rattle.std.specs.Prelude.{ℕ, ◌/◌, ◌%◌, Bool, ◌&&◌, cond, List, [], length, leb, eqb}
+use Rattle.std.specs.Prelude.{ℕ, ◌/◌, ◌%◌, ◌≡◌, Bool, ◌&&◌, cond, List, [], length, leb, eqb}
 use Rattle.words.specs.Run.{lay}
 use Rattle.pool.specs.Register.{refusal_of}
+use Rattle.state.specs.declared.BatchCoalescer.{BatchCoalescer}
 use Rattle.state.specs.declared.RowAnswer.{RowAnswer}
 use Rattle.state.specs.World.{World, world}
 use Rattle.rules.specs.Batch.{Batch}
 use Rattle.rules.specs.Ranges.{fits_set_up}
 use Rattle.rules.specs.Calls.{Answered, Wanted, set_up_call, push_call, finish_call, drop_call, register_call, let_go_call, read_row, row_refusal, buffer_number_call, buffer_call, limit_of, buffered_count, has_completed, is_empty}
+use Rattle.codes.specs.declared.Coded.{Coded}
 use Rattle.codes.specs.Code.{state_bytes, limit_in, limited, decoded}
 use Rattle.crossing.specs.Cross.{kept_as, pair, number_in, limit_pair, row_bytes, words_from}
 
@@ -98,6 +100,14 @@ coded form b g =
 -- hold none, and are 1. 01: "Every call after set-up tests 1, then 14"
 unfoldable pub uncoded : Memory → ℕ
 uncoded m = cond (fits_set_up (world_in m)) (decoded m.state).number 1
+
+-- bytes that code a state; and those that code none, with the refusal of a call on them
+abbrev pub Codes : List ℕ → BatchCoalescer → Type 0
+Codes b s = ◌≡◌ {A = Coded} (record { number = 0; state = s }) (decoded b)
+
+pub record CodesNone (m : Memory) (n : ℕ) : Type 0 where
+  pub none : (decoded m.state).number ≡ 0 → ⊥
+  pub refusal_is : n ≡ uncoded m
 
 -- a call on bytes: those that code no state are refused, and nothing changes
 unfoldable pub called : Form → (World → Given) → Memory → Said

@@ -1,5 +1,5 @@
 -- The C layer's calls: a law for each exit.
-use Rattle.std.specs.Prelude.{ℕ, zero, suc, refl, Bool, List, [], length, eqb}
+use Rattle.std.specs.Prelude.{ℕ, zero, suc, refl, Bool, List, length, eqb}
 use Rattle.std.proofs.Math.Path.{◌≡◌, ap}
 use Rattle.std.proofs.Common.{sym, ◌∙◌, arith}
 use Rattle.std.proofs.Math.Bool.{true, false, cond}
@@ -29,7 +29,7 @@ use Rattle.codes.specs.Code.{state_bytes, code_of, limit_in, set_up_words, count
 use Rattle.codes.specs.TakeLaws.{code_state}
 use Rattle.codes.specs.LimitLaws.{limited-code}
 use Rattle.crossing.specs.Cross.{kept_as, KeepsState, pair, number_in, limit_pair, row_bytes}
-use Rattle.capi.specs.Api.{Memory, memory, said, told, Form, number, both, in_form, Given, given, pushing, finishing, dropping, registering, letting_go, world_in, coded, uncoded, called}
+use Rattle.capi.specs.Api.{Memory, memory, said, told, Form, number, both, Given, given, pushing, finishing, dropping, registering, letting_go, world_in, coded, uncoded, Codes, CodesNone, called}
 use Rattle.capi.specs.Api.{buffer_number, part_in, buffer_read, row_in, row_read, limit_set, limit_read, rows_buffered, completed_flag, empty_flag}
 use Rattle.std.specs.Prelude.{Option, Result}
 use Rattle.counts.specs.declared.BufferNumber.{BufferNumber}
@@ -77,11 +77,37 @@ pub uncoded_is : (b slots pool books : List ℕ) {d : Coded} {r : ℕ} → d ≡
 unfolding uncoded fits_set_up fits_lengths
 uncoded_is b slots pool books e p = rw (p, e)
 
-module _ (form : Form) (f : World → Given) (b slots pool books : List ℕ) {d : Coded} (e : d ≡ decoded b) where
-  pub call_refused : {n r : ℕ} → (d.number ≡ 0 → ⊥) → n ≡ uncoded (memory b slots pool books) → r ≡ in_form form n 0 → said r (memory b slots pool books) ≡ called form f (memory b slots pool books)
-  unfolding called
-  call_refused h q p = rw (← e, ne_eqb d.number 0 h, p, q)
+-- what coded_state answers
+pub codes_one : (b : List ℕ) {d : Coded} → d ≡ decoded b → d.number ≡ 0 → Codes b d.state
+codes_one b e z = rw (← z) e
 
+pub codes_none : (b slots pool books : List ℕ) {d : Coded} {r : ℕ} → d ≡ decoded b → (d.number ≡ 0 → ⊥) → Refuses slots pool books d r → CodesNone (memory b slots pool books) r
+codes_none b slots pool books e h p =
+    record { none = λ z. h (ap (λ (x : Coded). x.number) e ∙ z); refusal_is = uncoded_is b slots pool books e p }
+
+-- bytes that code none
+module _ {m : Memory} {n : ℕ} (k : CodesNone m n) where
+  pub number_none : (f : World → Given) → said n m ≡ called number f m
+  unfolding called
+  number_none f = rw (ne_eqb (decoded m.state).number 0 k.none, k.refusal_is)
+
+  pub both_none : (f : World → Given) {r : ℕ} → r ≡ pair n 0 → said r m ≡ called both f m
+  unfolding called
+  both_none f p = rw (ne_eqb (decoded m.state).number 0 k.none, p, k.refusal_is)
+
+  pub refusal_none : (i : ℕ) → n ≡ buffer_number m i
+  unfolding buffer_number
+  refusal_none i = rw (ne_eqb (decoded m.state).number 0 k.none) k.refusal_is
+
+  pub read_none : (i : ℕ) (out : List ℕ) → told 0 out ≡ buffer_read m i out
+  unfolding buffer_read part_in lay put
+  read_none i out = rw (ne_eqb (decoded m.state).number 0 k.none) (ap (told 0) (sym (take-length out)))
+
+  pub row_none : (c i : ℕ) → RowAnswer.Refused n ≡ row_in m c i
+  unfolding row_in
+  row_none c i = rw (ne_eqb (decoded m.state).number 0 k.none) (ap (λ (x : ℕ). RowAnswer.Refused x) k.refusal_is)
+
+module _ (form : Form) (f : World → Given) (b slots pool books : List ℕ) {d : Coded} (e : d ≡ decoded b) where
   pub call_done : {g : Given} → d.number ≡ 0 → f (world d.state slots pool books) ≡ g → coded form b g ≡ called form f (memory b slots pool books)
   unfolding called
   call_done z p = rw (← e, eq-eqb d.number 0 z, p)
@@ -94,13 +120,6 @@ called_same form f g m h = go (ℕ_discrete (decoded m.state).number 0)
     go : Dec ((decoded m.state).number ≡ 0) → called form f m ≡ called form g m
     go (yes z) = rw (eq-eqb (decoded m.state).number 0 z) (ap (coded form m.state) (h z))
     go (no z) = rw (ne_eqb (decoded m.state).number 0 z)
-
-module _ (f : World → Given) (b slots pool books : List ℕ) {d : Coded} (e : d ≡ decoded b) (h : d.number ≡ 0 → ⊥) where
-  pub number-refused : {r : ℕ} → Refuses slots pool books d r → said r (memory b slots pool books) ≡ called number f (memory b slots pool books)
-  number-refused p = call_refused number f b slots pool books e h (uncoded_is b slots pool books e p) refl
-
-  pub both_refused : {n r : ℕ} → Refuses slots pool books d n → r ≡ pair n 0 → said r (memory b slots pool books) ≡ called both f (memory b slots pool books)
-  both_refused q p = call_refused both f b slots pool books e h (uncoded_is b slots pool books e q) p
 
 -- a call that answers a number and keeps the state: push and finish
 module _ (f : World → Answered) (g : World → Given) (same : (w : World) → g w ≡ given (f w)) (b slots pool books : List ℕ) {d : Coded} (e : d ≡ decoded b) (z : d.number ≡ 0) where
@@ -206,33 +225,17 @@ module _ (b slots pool books : List ℕ) {d : Coded} (e : d ≡ decoded b) (z : 
 -- ---- reads
 
 module _ (b slots pool books : List ℕ) {d : Coded} (e : d ≡ decoded b) where
-  pub refusal_not : (i : ℕ) {r : ℕ} → (d.number ≡ 0 → ⊥) → Refuses slots pool books d r → r ≡ buffer_number (memory b slots pool books) i
-  unfolding buffer_number
-  refusal_not i h p = rw (← e, ne_eqb d.number 0 h) (uncoded_is b slots pool books e p)
-
   pub refusal-read : (i : ℕ) {r : ℕ} → d.number ≡ 0 → r ≡ buffer_number_call (world d.state slots pool books) i → r ≡ buffer_number (memory b slots pool books) i
   unfolding buffer_number
   refusal-read i z p = rw (← e, eq-eqb d.number 0 z) p
-
-  pub part_not : (i : ℕ) → (d.number ≡ 0 → ⊥) → part_in (memory b slots pool books) i ≡ []
-  unfolding part_in
-  part_not i h = rw (← e, ne_eqb d.number 0 h)
 
   pub part_is : (i : ℕ) → d.number ≡ 0 → part_in (memory b slots pool books) i ≡ buffer_call (world d.state slots pool books) i
   unfolding part_in
   part_is i z = rw (← e, eq-eqb d.number 0 z)
 
-  pub read_not : (i : ℕ) (out : List ℕ) → (d.number ≡ 0 → ⊥) → told 0 out ≡ buffer_read (memory b slots pool books) i out
-  unfolding buffer_read lay put
-  read_not i out h = rw (part_not i h) (ap (told 0) (sym (take-length out)))
-
   pub read_done : (i : ℕ) (out : List ℕ) {part out' : List ℕ} → d.number ≡ 0 → part ≡ buffer_call (world d.state slots pool books) i → out' ≡ lay 0 part out → told (length part) out' ≡ buffer_read (memory b slots pool books) i out
   unfolding buffer_read
   read_done i out z p q = rw (q, p, part_is i z)
-
-  pub row_not : (c i : ℕ) {r : ℕ} → (d.number ≡ 0 → ⊥) → Refuses slots pool books d r → RowAnswer.Refused r ≡ row_in (memory b slots pool books) c i
-  unfolding row_in
-  row_not c i h p = rw (← e, ne_eqb d.number 0 h) (ap (λ (n : ℕ). RowAnswer.Refused n) (uncoded_is b slots pool books e p))
 
   pub row_is : (c i : ℕ) {a : RowAnswer} → d.number ≡ 0 → a ≡ read_row (world d.state slots pool books) c i → a ≡ row_in (memory b slots pool books) c i
   unfolding row_in

@@ -20,14 +20,13 @@ pub fn pw_push_batch(
     ensures { said result (memory state.new slots.new pool.new books.new)
         ≡ called number (pushing (batch rows records.now body.now)) (memory state.old slots.old pool.old books.old) }
 {
-    let coded = decoding::decode(state);
-    if coded.number == 0 {
-        let s = coded.state;
-        let step = coalesce::push_batch(s, slots, pool, books, records, body, RowCount(rows));
-        let pushed = step.state;
-        crossing::keep(state, step.number, pushed)
-    } else {
-        capi::uncoded(coded, slots.len(), pool.len(), books.len())
+    match capi::coded_state(state, slots, pool, books) {
+        Ok(s) => {
+            let step = coalesce::push_batch(s, slots, pool, books, records, body, RowCount(rows));
+            let pushed = step.state;
+            crossing::keep(state, step.number, pushed)
+        }
+        Err(refusal) => refusal,
     }
 }
 
@@ -41,14 +40,13 @@ pub fn pw_finish_buffered_batch(
     ensures { said result (memory state.new slots.new pool.now books.new)
         ≡ called number finishing (memory state.old slots.old pool.now books.old) }
 {
-    let coded = decoding::decode(state);
-    if coded.number == 0 {
-        let s = coded.state;
-        let step = buffered::finish_buffered_batch(s, slots, pool, books);
-        let finished = step.state;
-        crossing::keep(state, step.number, finished)
-    } else {
-        capi::uncoded(coded, slots.len(), pool.len(), books.len())
+    match capi::coded_state(state, slots, pool, books) {
+        Ok(s) => {
+            let step = buffered::finish_buffered_batch(s, slots, pool, books);
+            let finished = step.state;
+            crossing::keep(state, step.number, finished)
+        }
+        Err(refusal) => refusal,
     }
 }
 
@@ -57,17 +55,13 @@ pub fn pw_next_completed_batch(state: &mut [u8], slots: &[u8], pool: &[u8], book
     ensures { said result (memory state.new slots.now pool.now books.new)
         ≡ called both dropping (memory state.old slots.now pool.now books.old) }
 {
-    let coded = decoding::decode(state);
-    if coded.number == 0 {
-        let s = coded.state;
-        let dropped = completed::next_completed_batch(s, slots, pool, books);
-        let t = dropped.state;
-        let refusal = crossing::keep(state, dropped.number, t);
-        crossing::both(refusal, dropped.rows.0)
-    } else {
-        crossing::both(
-            capi::uncoded(coded, slots.len(), pool.len(), books.len()),
-            0,
-        )
+    match capi::coded_state(state, slots, pool, books) {
+        Ok(s) => {
+            let dropped = completed::next_completed_batch(s, slots, pool, books);
+            let t = dropped.state;
+            let refusal = crossing::keep(state, dropped.number, t);
+            crossing::both(refusal, dropped.rows.0)
+        }
+        Err(refusal) => crossing::both(refusal, 0),
     }
 }

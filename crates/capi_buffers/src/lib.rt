@@ -18,16 +18,19 @@ pub fn pw_register_buffer(
     ensures { said result (memory state.now slots.now pool.new books.new)
         ≡ called both (registering bytes.now capacity) (memory state.now slots.now pool.old books.old) }
 {
-    let coded = decoding::decode(state);
-    if coded.number == 0 {
-        let s = coded.state;
-        let answer = buffers::register_buffer(s, slots, pool, books, bytes, ByteCount(capacity));
-        crossing::registered_pair(answer)
-    } else {
-        crossing::both(
-            capi::uncoded(coded, slots.len(), pool.len(), books.len()),
-            0,
-        )
+    match capi::coded_state(state, slots, pool, books) {
+        Ok(s) => {
+            let answer = buffers::register_buffer(
+                s,
+                slots,
+                pool,
+                books,
+                bytes,
+                ByteCount(capacity),
+            );
+            crossing::registered_pair(answer)
+        }
+        Err(refusal) => crossing::both(refusal, 0),
     }
 }
 
@@ -36,11 +39,8 @@ pub fn pw_let_go(state: &[u8], slots: &[u8], pool: &[u8], books: &mut [u8], buff
     ensures { said result (memory state.now slots.now pool.now books.new)
         ≡ called number (letting_go buffer) (memory state.now slots.now pool.now books.old) }
 {
-    let coded = decoding::decode(state);
-    if coded.number == 0 {
-        let s = coded.state;
-        buffers::let_go(s, slots, pool, books, BufferNumber(buffer))
-    } else {
-        capi::uncoded(coded, slots.len(), pool.len(), books.len())
+    match capi::coded_state(state, slots, pool, books) {
+        Ok(s) => buffers::let_go(s, slots, pool, books, BufferNumber(buffer)),
+        Err(refusal) => refusal,
     }
 }

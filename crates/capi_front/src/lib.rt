@@ -10,13 +10,11 @@ ghost use Rattle.capi_front.specs.Front.{front_read};
 pub fn pw_front_batch(state: &[u8], slots: &[u8], pool: &[u8], books: &[u8], out: &mut [u8]) -> u64
     ensures { told result out.new ≡ front_read (memory state.now slots.now pool.now books.now) out.old }
 {
-    let coded = decoding::decode(state);
-    if coded.number == 0 {
-        let s = coded.state;
-        let front = fronts::front_batch(s, slots, pool, books, out);
-        crossing::both(front.number, front.rows.0)
-    } else {
-        let refusal = capi::uncoded(coded, slots.len(), pool.len(), books.len());
-        crossing::both(refusal, 0)
+    match capi::coded_state(state, slots, pool, books) {
+        Ok(s) => {
+            let front = fronts::front_batch(s, slots, pool, books, out);
+            crossing::both(front.number, front.rows.0)
+        }
+        Err(refusal) => crossing::both(refusal, 0),
     }
 }

@@ -11,12 +11,9 @@ use state::RowAnswer;
 pub fn pw_buffer_refusal(state: &[u8], slots: &[u8], pool: &[u8], books: &[u8], buffer: u32) -> u32
     ensures { result ≡ buffer_number (memory state.now slots.now pool.now books.now) buffer }
 {
-    let coded = decoding::decode(state);
-    if coded.number == 0 {
-        let s = coded.state;
-        buffers::buffer_refusal(s, slots, pool, books, BufferNumber(buffer))
-    } else {
-        capi::uncoded(coded, slots.len(), pool.len(), books.len())
+    match capi::coded_state(state, slots, pool, books) {
+        Ok(s) => buffers::buffer_refusal(s, slots, pool, books, BufferNumber(buffer)),
+        Err(refusal) => refusal,
     }
 }
 
@@ -31,15 +28,14 @@ pub fn pw_read_buffer(
 ) -> u64
     ensures { told result out.new ≡ buffer_read (memory state.now slots.now pool.now books.now) buffer out.old }
 {
-    let coded = decoding::decode(state);
-    if coded.number == 0 {
-        let s = coded.state;
-        let part = buffers::read_buffer(s, slots, pool, books, BufferNumber(buffer));
-        let size = part.len() as u64;
-        crossing::copy_front(out, part);
-        size
-    } else {
-        0
+    match capi::coded_state(state, slots, pool, books) {
+        Ok(s) => {
+            let part = buffers::read_buffer(s, slots, pool, books, BufferNumber(buffer));
+            let size = part.len() as u64;
+            crossing::copy_front(out, part);
+            size
+        }
+        Err(_) => 0,
     }
 }
 
@@ -54,12 +50,9 @@ fn row_answer(
 ) -> RowAnswer
     ensures { result ≡ row_in (memory state.now slots.now pool.now books.now) column row }
 {
-    let coded = decoding::decode(state);
-    if coded.number == 0 {
-        let s = coded.state;
-        rows::read_row(s, slots, pool, books, column, row)
-    } else {
-        RowAnswer::Refused(capi::uncoded(coded, slots.len(), pool.len(), books.len()))
+    match capi::coded_state(state, slots, pool, books) {
+        Ok(s) => rows::read_row(s, slots, pool, books, column, row),
+        Err(refusal) => RowAnswer::Refused(refusal),
     }
 }
 

@@ -16,6 +16,7 @@ fn is_askable(state: usize, kinds: usize, pool: usize) -> bool
 }
 
 // Set-up. `kinds` are words of 4 bytes, one a column. 0, or 1 and nothing changed.
+// Kept: slices and numbers one by one, here and in all of the C layer, as the exports of `puffwidget` pass them on.
 pub fn pw_new(
     state: &mut [u8],
     slots: &[u8],

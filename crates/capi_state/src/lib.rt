@@ -22,8 +22,7 @@ pub fn pw_set_biggest_coalesce_batch_size(state: &mut [u8], set: u32, rows: u32)
 pub fn pw_biggest_coalesce_batch_size(state: &[u8]) -> u64
     ensures { result ≡ limit_read state.now }
 {
-    let coded = decoding::decode(state);
-    let s = coded.state;
+    let s = decoding::decode(state).state;
     crossing::limit_pair(queries::biggest_coalesce_batch_size(s))
 }
 
@@ -31,8 +30,7 @@ pub fn pw_biggest_coalesce_batch_size(state: &[u8]) -> u64
 pub fn pw_get_buffered_rows(state: &[u8]) -> u32
     ensures { result ≡ rows_buffered state.now }
 {
-    let coded = decoding::decode(state);
-    let s = coded.state;
+    let s = decoding::decode(state).state;
     queries::get_buffered_rows(s).0
 }
 
@@ -40,8 +38,7 @@ pub fn pw_get_buffered_rows(state: &[u8]) -> u32
 pub fn pw_has_completed_batch(state: &[u8]) -> u32
     ensures { result ≡ completed_flag state.now }
 {
-    let coded = decoding::decode(state);
-    let s = coded.state;
+    let s = decoding::decode(state).state;
     u32::from(queries::has_completed_batch(s))
 }
 
@@ -49,7 +46,6 @@ pub fn pw_has_completed_batch(state: &[u8]) -> u32
 pub fn pw_is_empty(state: &[u8]) -> u32
     ensures { result ≡ empty_flag state.now }
 {
-    let coded = decoding::decode(state);
-    let s = coded.state;
+    let s = decoding::decode(state).state;
     u32::from(queries::is_empty(s))
 }

@@ -12,6 +12,7 @@ use counts::{BufferNumber, RowCount};
 use state::{BatchCoalescer, Place, RowAnswer};
 
 // Two numbers as one: the refusal in the upper 32 bits, or 0, and the value in the lower.
+// Kept: no From, for the two numbers have no type of their own to convert.
 pub fn both(refusal: u32, value: u32) -> u64
     ensures { result ≡ pair refusal value }
 {
@@ -53,6 +54,7 @@ fn place_words(place: Place) -> [u32; 5]
 }
 
 // What reading a row answers: the refusal or 0, and the row in 20 bytes, which a refusal leaves.
+// Kept: a number, as `pw_read_row` answers it across C.
 pub fn put_answer(out: &mut [u8], answer: RowAnswer) -> u32
     requires { length out.old ≡ 20 }
     ensures { (result ≡ row_refusal answer) × (out.new ≡ row_bytes answer out.old) }
@@ -91,6 +93,7 @@ pub fn kinds_of(kinds: &[u8]) -> [u32; 16]
 }
 
 // The state coded where the number of a refusal is 0; hands on that number.
+// Kept: a number beside a state, as `KeepsState` and what the calls by value hand on (`Step`, `Dropped`) have it.
 pub fn keep(state: &mut [u8], refusal: u32, s: BatchCoalescer) -> u32
     requires { length state.old ≡ state_bytes }
     ensures { KeepsState refusal s state.old state.new result }

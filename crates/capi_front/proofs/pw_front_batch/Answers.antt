@@ -1,10 +1,12 @@
 -- `capi_front::pw_front_batch` meets its contract.
-use borrow.Author.Rules.{rules}
-use Rattle.capi_front.specs.FrontLaws.{front-told, front_not}
+use Rattle.std.proofs.Common.{refl}
+use Rattle.capi_front.specs.FrontLaws.{front-told, front_none}
 use Rattle.capi_front.proofs.pw_front_batch.Goals as goal
 
-pub returns-then-coded-eq0 : goal.returns-then-coded-eq0
-returns-then-coded-eq0 c = search (front-told, rules)
+pub returns-in-Ok : goal.returns-in-Ok
+returns-in-Ok c =
+    front-told c.args.state.now c.args.slots.now c.args.pool.now c.args.books.now c.args.out.now c.in-Ok.ensures refl
+    c.front_batch-front.ensures c.both.ensures
 
-pub returns-else-coded-eq0 : goal.returns-else-coded-eq0
-returns-else-coded-eq0 c = search (front_not, rules)
+pub returns-in-Err : goal.returns-in-Err
+returns-in-Err c = front_none _ c.in-Err.ensures c.both-in-Err.ensures
