@@ -145,7 +145,7 @@ class Function:
         self.crate, self.name, self.exported, self.ensures, self.requires = crate, name, exported, ensures, requires
         inside = head[head.index('(') + 1:]
         self.parameters = set(re.findall(r'(\w+)\s*:', inside))
-        self.types = set(re.findall(r'\b[A-Z]\w*\b', inside))
+        self.types = set(re.findall(r'\b[A-Z]\w*\b', inside)) - PRIMITIVE
 
 
 class Source:
