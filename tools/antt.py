@@ -219,7 +219,7 @@ class Repository:
             return []
         crate, inner = where
         if inner.startswith('declared.'):
-            return [self.declared(crate, name)[1]]
+            return [self.declared(crate, inner.split('.')[-2] if inner.endswith('.TheVariants') else name)[1]]  # a case is its enum's
         if where not in self.files:
             raise Unresolved(f'{module}: no such file')
         found = self.in_file(self.files[where], name)

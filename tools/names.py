@@ -224,7 +224,8 @@ def types_of(repository, source, wanted, where):
         if name in source.types:
             found.append(source.types[name])
         elif name in source.uses:
-            found.append(repository.declared(source.uses[name], name)[1])
+            crate = source.uses[name] if source.uses[name] in repository.crates else source.crate  # else a module of its own
+            found.append(repository.declared(crate, name)[1])
         else:
             raise Unresolved(f'{where}: nothing explains the type {name}')
     return found
