@@ -1,5 +1,5 @@
 // What every call answers, a line a call, and what it reads.
-use crate::rows::{self, Cells};
+use crate::cells::{self, Cells};
 use answers::word_at;
 use calls::Memories;
 use capture::{Call, Fault, Sent, Wrong};
@@ -39,7 +39,7 @@ impl<'m, 's> Lines<'m, 's> {
             Call::Drop => {
                 // as many as stand in word 3 of the state, up to 16
                 let columns = Columns(word_at(&self.memories.state, 12).min(16));
-                rows::show(rt, &columns, &self.memories, self.scratch)
+                cells::show(rt, &columns, &self.memories, self.scratch)
             }
             Call::ReadRow { column, row } => {
                 telling::place(rt, column, row, self.memories.cell(column, row))

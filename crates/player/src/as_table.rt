@@ -1,5 +1,5 @@
 // The rows of a match as a table.
-use crate::rows::{self, Cells};
+use crate::cells::{self, Cells};
 use answers::Answer;
 use calls::Memories;
 use capture::{Call, Fault, Sent, Wrong};
@@ -42,7 +42,7 @@ impl<'m, 's> Table<'m, 's> {
     fn call<R: Print>(&mut self, rt: &R, sent: &Sent<'_, Call>) -> io::Result<Answer> {
         let shown = match sent.call {
             Call::SetUp(_) => table::waiting(rt, self.memories.buffered()),
-            Call::Drop => rows::show(rt, &FourColumns, &self.memories, self.scratch),
+            Call::Drop => cells::show(rt, &FourColumns, &self.memories, self.scratch),
             _ => Ok(()),
         };
         let answer = self.memories.make(sent);

@@ -3,7 +3,7 @@
 
 mod as_lines;
 mod as_table;
-mod rows;
+mod cells;
 
 pub use as_lines::Lines;
 pub use as_table::Table;
