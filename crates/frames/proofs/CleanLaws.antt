@@ -140,7 +140,7 @@ head_clean l w =
     (clean_append (go l) (clean_append (words_clean (text ", rows waiting ") refl) (clean_append (decimal_clean w) end_clean)))
   where
     go : (l : Option ℕ) → Clean (last_text l)
-    go None = words_clean (text "None") refl
+    go None = words_clean (text "none") refl
     go (Some n) = decimal_clean n
 
 -- a side's title

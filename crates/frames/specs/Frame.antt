@@ -34,7 +34,7 @@ line_end = text "\n"
 
 -- 02, K6: "the last accepted row's" number, where there is one
 unfoldable pub last_text : Option ℕ → List ℕ
-last_text None = text "None"
+last_text None = text "none"
 last_text (Some n) = decimal n
 
 -- that number, and how many rows wait behind the batch that was read

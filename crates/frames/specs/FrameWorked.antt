@@ -60,7 +60,7 @@ unfolding frame_of strip_text rows_text row_text why_text which_text reason_text
 worked = refl
 
 -- before any row
-pub first_line : head_text empty.last 0 ≡ text "last row None, rows waiting 0\n"
+pub first_line : head_text empty.last 0 ≡ text "last row none, rows waiting 0\n"
 unfolding head_text last_text decimal decimal_in
 first_line = refl
 

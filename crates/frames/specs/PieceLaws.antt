@@ -10,7 +10,7 @@ use Rattle.frames.specs.Laid.{Laid, laid_more, laid_three, laid_five}
 -- ---- the first line
 
 -- the exits of `put_last`
-pub last_none : (b s : List ℕ) {at r : ℕ} {t : List ℕ} → last_in b ≡ None → Laid 4 at (text "None") s t r → Laid 20 at (last_text (last_in b)) s t r
+pub last_none : (b s : List ℕ) {at r : ℕ} {t : List ℕ} → last_in b ≡ None → Laid 4 at (text "none") s t r → Laid 20 at (last_text (last_in b)) s t r
 unfolding last_text
 last_none b s e l = rw e (laid_more l (omega arith))
 
