@@ -15,11 +15,7 @@ use std::array;
 pub fn limit_of(set: u32, rows: u32) -> Option<RowCount>
     ensures { result ≡ limit_in set rows }
 {
-    if set == 0 {
-        None
-    } else {
-        Some(RowCount(rows))
-    }
+    if set == 0 { None } else { Some(RowCount(rows)) }
 }
 
 fn block_of(open: u32, number: u32) -> Option<BufferNumber>

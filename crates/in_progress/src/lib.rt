@@ -78,9 +78,7 @@ fn copy_into_open(
     let block = column.block;
     match block {
         None => {}
-        Some(k) => {
-            copy_strings(s, slots, pool, books, records, body, rows, r, p, k)
-        }
+        Some(k) => { copy_strings(s, slots, pool, books, records, body, rows, r, p, k) }
     }
 }
 
@@ -211,9 +209,7 @@ fn append_views_and_copy_strings(
     let column = layout::column_of(s, p.column);
     let block = column.block;
     match block {
-        None => {
-            open_and_copy(s, slots, pool, books, records, body, rows, r, p, ideal)
-        }
+        None => { open_and_copy(s, slots, pool, books, records, body, rows, r, p, ideal) }
         Some(k) => {
             let rest = columns::rest_of(books, k);
             if ideal.0 <= rest.0 {

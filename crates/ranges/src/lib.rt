@@ -92,15 +92,19 @@ fn none_before(s: BatchCoalescer, c: u32, k: BufferNumber) -> bool
 }
 
 // 14, an open block of column c: its number is below N and in use, its list has a place for it, and no column before has it open.
-fn block_in_range(s: BatchCoalescer, books: &[u8], list: u32, c: u32, block: Option<BufferNumber>) -> bool
+fn block_in_range(
+    s: BatchCoalescer,
+    books: &[u8],
+    list: u32,
+    c: u32,
+    block: Option<BufferNumber>,
+) -> bool
     requires { (c ≤ 16) × (length books.now ≡ books_length s) }
     ensures { result ≡ block_in_range s books.now list c block }
 {
     match block {
         None => true,
-        Some(k) => {
-            k.0 < s.numbers && in_use(books, k) && list < s.lists && none_before(s, c, k)
-        }
+        Some(k) => { k.0 < s.numbers && in_use(books, k) && list < s.lists && none_before(s, c, k) }
     }
 }
 

@@ -10,4 +10,3 @@ pub struct Room {
     pub number: BufferNumber,
     pub start: u32,
 }
-
