@@ -2,6 +2,9 @@
 // they become these.
 #![tactic(auto)]
 
+ghost use Rattle.std.specs.Prelude.{◌≡◌, ◌+◌, ◌<◌, ◌≤◌, ◌/◌, ◌%◌, length, IfOk, IfErr, IfSome, IfNone};
+ghost use Rattle.words.specs.Word.{with_word32};
+
 use std::fmt;
 
 // The number of a refusal.
@@ -18,7 +21,10 @@ impl fmt::Display for Refusal {
 pub type Answer = Result<u32, Refusal>;
 
 // The answer of a call that answers the refusal alone, 0 for none.
-pub fn done(refusal: u32) -> Answer {
+pub fn done(refusal: u32) -> Answer
+    ensures value { IfOk result (λ v. (v ≡ 0) × (refusal ≡ 0)) }
+    ensures refused { IfErr result (λ r. (r.0 ≡ refusal) × (1 ≤ refusal)) }
+{
     match refusal {
         0 => Ok(0),
         number => Err(Refusal(number)),
@@ -26,12 +32,18 @@ pub fn done(refusal: u32) -> Answer {
 }
 
 // An answer of two numbers, which the C layer hands out as one: the refusal in the upper 32 bits, the value in the lower.
-pub fn answer_in(both: u64) -> Answer {
+pub fn answer_in(both: u64) -> Answer
+    ensures value { IfOk result (λ v. (v ≡ both % 4294967296) × (both < 4294967296)) }
+    ensures refused { IfErr result (λ r. (r.0 ≡ both / 4294967296) × (4294967296 ≤ both)) }
+{
     done((both >> 32) as u32).and(Ok((both % 4294967296) as u32))
 }
 
 // The limit, which the C layer hands out as one number: 1 in the upper 32 bits where one is set, and its rows in the lower.
-pub fn limit_in(both: u64) -> Option<u32> {
+pub fn limit_in(both: u64) -> Option<u32>
+    ensures rows { IfSome result (λ n. (n ≡ both % 4294967296) × (4294967296 ≤ both)) }
+    ensures unset { IfNone result (both < 4294967296) }
+{
     match both >> 32 {
         0 => None,
         _ => Some((both % 4294967296) as u32),
@@ -111,11 +123,12 @@ pub fn word_at(s: &[u8], at: usize) -> u32 {
 }
 
 // The word put at a place of a memory, where there is one.
-pub fn put_word(s: &mut [u8], at: usize, word: u32) {
-    if at <= s.len()
-        && let Some(place) = s[at..].first_chunk_mut()
-    {
-        *place = word.to_le_bytes();
+pub fn put_word(s: &mut [u8], at: usize, word: u32)
+    ensures put { at + 4 ≤ length s.old → s.new ≡ with_word32 s.old at word }
+    ensures past { length s.old < at + 4 → s.new ≡ s.old }
+{
+    if at <= s.len() && 4 <= s.len() - at {
+        words::put32(s, at, word);
     }
 }
 

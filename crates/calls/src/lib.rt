@@ -1,13 +1,15 @@
 // The calls of a capture made on the four memories, each at one place: what programs that play one know of the C layer.
 #![tactic(auto)]
 
-ghost use Rattle.std.specs.Prelude.{◌≤◌, length};
+ghost use Rattle.std.specs.Prelude.{◌≡◌, ◌≤◌, length, replicate};
 
 use answers::{Answer, Cell, Counts, Refusal, answer_in, done, part};
 use capture::{Call, Lent, Memory, Place, Sent, SetUp, Wrong};
 
 // A memory of so many bytes, all of them 0.
-pub fn memory<const N: usize>() -> [u8; N] {
+pub fn memory<const N: usize>() -> [u8; N]
+    ensures { result ≡ replicate N 0 }
+{
     [0; N]
 }
 

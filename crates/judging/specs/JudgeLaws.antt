@@ -77,7 +77,7 @@ judges e b = record { verdict_is = e; bytes = b }
 
 pub record MayGoOn (w : World) (b : Batch) : Type 0 where
   pub passed : tested w ≡ 0
-  pub Some : b.rows ≢ 0
+  pub some : b.rows ≢ 0
   pub faultless : batch_fault w b ≡ None
 
 module _ (w : World) (b : Batch) where
@@ -95,7 +95,7 @@ module _ (w : World) (b : Batch) where
       go (no p) d o x = refuses (tested w) (rw (ne_eqb (tested w) 0 p)) (rw (ne_eqb (tested w) 0 p, pushed))
       go (yes p) (yes q) o x = nothing (rw (p, q)) (rw (p, q, pushed))
       go (yes p) (no q) None x =
-          goes (rw (p, ne_eqb b.rows 0 q, x)) (record { passed = p; Some = q; faultless = x }) (rw (p, ne_eqb b.rows 0 q, x, pushed))
+          goes (rw (p, ne_eqb b.rows 0 q, x)) (record { passed = p; some = q; faultless = x }) (rw (p, ne_eqb b.rows 0 q, x, pushed))
       go (yes p) (no q) (Some f) x =
           refuses f.number (rw (p, ne_eqb b.rows 0 q, x)) (rw (p, ne_eqb b.rows 0 q, x, pushed))
 

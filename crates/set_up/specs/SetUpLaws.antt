@@ -1,4 +1,5 @@
 -- Set-up: the turns of its loops, and a law for each exit.
+use Rattle.std.specs.Prelude.{None}
 use Prim.Native.Nat.{ℕ, zero, suc, ◌+◌, ◌≤◌, ◌<◌}
 use Rattle.std.specs.Prelude.{◌≡◌, Bool, true, false, List, [], ◌∷◌, length, replicate}
 use Rattle.std.proofs.Math.Path.{refl}
