@@ -52,7 +52,7 @@ use Rattle.promise.specs.OnBytes.{
   taken_by,
   DidBytes,
   Sends,
-  None,
+  none,
   next,
   astray,
 }
@@ -231,7 +231,7 @@ pub record Ran (y : DidBytes) (x : Did) : Type 0 where
 
 pub sends_ran : {m : Memory} {cs : List Call} {y : DidBytes} {w : World} → Between w → HoldsWorld m w → Sends m cs y → Ran y (run w cs)
 unfolding run
-sends_ran g h None = record { holds = h; accepted_are = refl; taken_are = refl }
+sends_ran g h none = record { holds = h; accepted_are = refl; taken_are = refl }
 sends_ran {w = w} g h (astray {m = m} {l = l} {n = n} {c = c} {r = r} live e s d ss) =
     let k : live n ≡ m = ap live (sent_nothing l c s d) ∙ e in
     let rest = sends_ran g (rw k h) ss in

@@ -98,14 +98,14 @@ held_used s k e = ltb-true _ _ ((and-eq-true_iff (ltb k (used_of s)) (not (eqb (
 
 -- ---- one column, one row
 
-module _ (w : World) (b : Batch) (run : Run w) (Some : b.rows ≢ 0) where
+module _ (w : World) (b : Batch) (run : Run w) (some : b.rows ≢ 0) where
   column_reads : (c : ℕ) → c < w.state.columns → ColumnGood w b c → ColumnReads w b c
   unfolding keeps_rules lies_in_body all_held held_all listed_number is_views
   column_reads c h g =
       record {
         values = body_says _ _ _ t.values (λ z. omega (arith, product b.rows (width_of w.state c) (omega arith) (width_some w.state c run.fit.bounds h)));
         bits = λ y.
-            let n = need_says (record_of b c).first b.rows Some in
+            let n = need_says (record_of b c).first b.rows some in
             omega (arith, n, body_says _ _ _ (t.bits y) n.0);
         listed = listed (dec_lt 0 (record_of b c).count);
         held = λ i l. every-says (λ i. is_held w.books (word32 b.body ((record_of b c).list + 4 * i))) (record_of b c).count g.held i l;
@@ -141,11 +141,11 @@ module _ (w : World) (b : Batch) (run : Run w) (Some : b.rows ≢ 0) where
       }
 
 pub fault_readable : (w : World) (b : Batch) → Run w → b.rows ≢ 0 → batch_fault w b ≡ None → Readable w b
-fault_readable w b run Some e =
+fault_readable w b run some e =
     let g : BatchGood w b = batch_good w b e in
     record {
       records_are = g.records;
       rows_fit = g.rows;
-      columns = λ c h. column_reads w b run Some c h (g.columns c h);
-      long = λ c i h v l t. row_reads w b run Some c i h v l (g.columns c h) t;
+      columns = λ c h. column_reads w b run some c h (g.columns c h);
+      long = λ c i h v l t. row_reads w b run some c i h v l (g.columns c h) t;
     }

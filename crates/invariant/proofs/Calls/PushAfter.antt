@@ -59,7 +59,7 @@ record Turns (w : World) (b : Batch) (from n : ℕ) (u : World) : Type 0 where
 
 module _ (w₀ : World) (b : Batch) where
   -- a part that fits the slot; its rows are then buffered, at most T of them
-  module _ (w : World) (from n : ℕ) (g : Between w) (x : ReadableBatch w b) (e : SameSetUp w₀.state w.state) (m : from + n ≤ b.rows) (Some : 1 ≤ n) (fits : w.state.buffered.0 + n ≤ w.state.target.0) where
+  module _ (w : World) (from n : ℕ) (g : Between w) (x : ReadableBatch w b) (e : SameSetUp w₀.state w.state) (m : from + n ≤ b.rows) (some : 1 ≤ n) (fits : w.state.buffered.0 + n ≤ w.state.target.0) where
     part : Holds (TakesPart w b from n) (Among steps) (part_taken w₀ w b from n)
     part =
         holds_among steps tt
@@ -69,7 +69,7 @@ module _ (w₀ : World) (b : Batch) where
     full v t = omega (arith, t.buffered, fits, ap (λ r. r.0) t.along.set_up.target)
 
     not_none : (v : World) → TakesPart w b from n v → v.state.buffered.0 ≡ 0 → Between v
-    not_none v t z = absurd (omega (arith, t.buffered, Some))
+    not_none v t z = absurd (omega (arith, t.buffered, some))
 
     -- finished, and where it is full
     finish_part : (v : World) → TakesPart w b from n v → Holds (QueuesBuffered v) (Among (9 ∷ [])) (finished v)
@@ -85,7 +85,7 @@ module _ (w₀ : World) (b : Batch) where
         (λ z. holds_among steps tt (holds_more (finish_part v t) (λ u f. then_finished v u t f) (λ k l. l)))
         (λ z. held
         (record {
-          between = record { holding = t.holding; below = omega (arith, full v t, eqb-false v.state.buffered.0 v.state.target.0 z); begun = λ y. absurd (omega (arith, t.buffered, Some)); spared = t.spared };
+          between = record { holding = t.holding; below = omega (arith, full v t, eqb-false v.state.buffered.0 v.state.target.0 z); begun = λ y. absurd (omega (arith, t.buffered, some)); spared = t.spared };
           after = takes_after t;
           bytes = t.along.bytes;
           pool = t.along.pool;
@@ -108,8 +108,8 @@ module _ (w₀ : World) (b : Batch) where
   coalesced-after (suc turns) w from g x e l f =
       go (λ v g x e l f. coalesced-after turns v (from + space w) g x e l f) (ltb (space w) (b.rows - from)) refl
     where
-      Some : 1 ≤ space w
-      Some = omega (arith, g.below)
+      some : 1 ≤ space w
+      some = omega (arith, g.below)
 
       go : ((v : World) → Between v → ReadableBatch v b → SameSetUp w₀.state v.state → from + space w < b.rows → b.rows - (from + space w) ≤ turns → Holds (RowsBehind v (batch_part v b (from + space w) (b.rows - (from + space w)))) (Among steps) (coalesced turns w₀ v b (from + space w))) → (z : Bool) → ltb (space w) (b.rows - from) ≡ z → Holds (RowsBehind w (batch_part w b from (b.rows - from))) (Among steps) (coalesced (suc turns) w₀ w b from)
       go rest false q =
@@ -118,7 +118,7 @@ module _ (w₀ : World) (b : Batch) where
       go rest true q =
           let t : space w < b.rows - from = ltb-true (space w) (b.rows - from) q in
           rw (q, coalesced)
-          (holds_bind _ (turn w from (space w) g x e (omega arith) Some (omega (arith, g.below))) (λ v p.
+          (holds_bind _ (turn w from (space w) g x e (omega arith) some (omega (arith, g.below))) (λ v p.
           holds_more (rest v p.pushes.between (along_sourced x g.holding.run p.along) (same_trans e p.along.set_up) (omega arith) (omega arith))
           (λ u k. record { between = k.between; after = rw (both v p) at (after_trans p.pushes.after k.after); bytes = λ z. k.bytes (p.pushes.bytes z); pool = pool_trans p.pushes.pool k.pool })
           (λ j l. l)))
@@ -134,7 +134,7 @@ module _ (w₀ : World) (b : Batch) where
 
 pub stepped-after : (w : World) (b : Batch) → Between w → ReadableBatch w b → 1 ≤ b.rows → Holds (RowsBehind w (batch_rows w b)) (Among (9 ∷ 10 ∷ 11 ∷ 12 ∷ [])) (stepped w b)
 unfolding stepped
-stepped-after w b g x Some =
+stepped-after w b g x some =
     go (over_limit w.state.limit b.rows) refl (eqb w.state.buffered.0 0) refl (over_limit w.state.limit w.state.buffered.0) refl
   where
     all : batch_part w b 0 (b.rows - 0) ≡ batch_rows w b
@@ -148,7 +148,7 @@ stepped-after w b g x Some =
     behind : (v : World) → QueuesBuffered w v → Holds (RowsBehind w (batch_rows w b)) (Among steps) (queued_whole v b)
     behind v f =
         holds_among steps tt
-        (holds_more (whole-after v b f.between f.none (along_sourced x g.holding.run f.along) Some)
+        (holds_more (whole-after v b f.between f.none (along_sourced x g.holding.run f.along) some)
         (λ u k. record { between = k.between; after = rw same at (after_trans f.after k.after); bytes = λ z. k.bytes (f.along.bytes z); pool = pool_trans f.along.pool k.pool })
         (λ j l. l))
       where
@@ -160,7 +160,7 @@ stepped-after w b g x Some =
     go true p true e z f =
         rw (p, e, stepped)
         (holds_among steps tt
-        (holds_more (whole-after w b g (eqb-true w.state.buffered.0 0 e) x Some) (λ v k. record { between = k.between; after = k.after; bytes = k.bytes; pool = k.pool }) (λ j l. l)))
+        (holds_more (whole-after w b g (eqb-true w.state.buffered.0 0 e) x some) (λ v k. record { between = k.between; after = k.after; bytes = k.bytes; pool = k.pool }) (λ j l. l)))
     go true p false e false f = rw (p, e, f, stepped) cut
     go true p false e true f =
         rw (p, e, f, stepped)
