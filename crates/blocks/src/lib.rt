@@ -42,6 +42,7 @@ fn grow(size: ByteCount, min: ByteSum) -> ByteCount
     ensures { result.0 ≡ grown size.0 min.0 }
 {
     let mut s = size.0;
+    // Kept: nothing is counted; the size doubles until a test ends it.
     while (s as u64) <= min.0 && s < MAX_BLOCK_SIZE {
         s = s * 2;
     }

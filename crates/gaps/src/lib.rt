@@ -65,6 +65,7 @@ pub fn lowest_gap(books: &[u8], pool: ByteCount, size: ByteSum) -> Option<u32>
         return None;
     }
     let mut at: u64 = 0;
+    // Kept: nothing is counted; each sweep says where the next one begins.
     while at <= end - want {
         let next = sweep(books, at, size);
         if next == at {
