@@ -150,6 +150,18 @@ impl<'a> Memories<'a> {
         ))
     }
 
+    // The front batch taken into a strip, with an answer for each row: how many rows it had.
+    pub fn take(&mut self, strip: &mut [u8], numbers: &mut [u8]) -> Answer {
+        answer_in(capi_strip::pw_strip_take(
+            &mut self.state,
+            &self.slots[..self.lent.slots],
+            &self.pool[..self.lent.pool],
+            &mut self.books[..self.lent.books],
+            strip,
+            numbers,
+        ))
+    }
+
     // A word of a memory overwritten, as no history would, where there is one; what is no other memory's is the books'.
     fn overwrite(&mut self, place: Place, word: u32) {
         let at = place.at as usize;

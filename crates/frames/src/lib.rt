@@ -16,8 +16,9 @@ pub const ROW_TEXT: usize = 129;
 
 // ---- bytes that a screen may have
 
-// A byte as it is shown behind another: `?` for a control byte.
-fn shown(before: u8, b: u8) -> u8
+// A byte as it is shown behind another that is shown: `?` for a control byte. One is below 32, 127, or from 128 to 159 where it stands by itself or
+// behind 194, as UTF-8 has the controls from 128 to 159; in any other place such a byte is the rest of a letter.
+pub fn shown(before: u8, b: u8) -> u8
     ensures { result ≡ shownBehind before b }
 {
     match b {

@@ -3,7 +3,7 @@
 
 mod frame;
 
-use answers::{Answer, answer_in, done};
+use answers::{Answer, done};
 use calls::{Memories, memory};
 use capture::{Call, Fault, Sent, Wrong};
 use std::io;
@@ -19,18 +19,6 @@ pub struct Strip<'m> {
     text: [u8; 400000],
     in_place: bool,
     tally: Tally,
-}
-
-// The front batch taken into the strip in one call: how many rows it had.
-fn taken(m: &mut Memories<'_>, strip: &mut [u8], numbers: &mut [u8]) -> Answer {
-    answer_in(capi_strip::pw_strip_take(
-        &mut m.state,
-        &m.slots[..m.lent.slots],
-        &m.pool[..m.lent.pool],
-        &mut m.books[..m.lent.books],
-        strip,
-        numbers,
-    ))
 }
 
 impl<'m> Strip<'m> {
@@ -71,7 +59,7 @@ impl Player for Strip<'_> {
         if !self.memories.is_completed() {
             return Ok(None);
         }
-        let answer = taken(&mut self.memories, &mut self.strip, &mut self.numbers);
+        let answer = self.memories.take(&mut self.strip, &mut self.numbers);
         self.tally.count(Call::Drop, answer);
         match answer {
             Ok(rows) => {

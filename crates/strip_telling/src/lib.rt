@@ -39,18 +39,6 @@ fn read(m: &mut Memories<'_>, strip: &mut [u8], numbers: &mut [u8]) -> Answer {
     ))
 }
 
-// The front batch taken into the strip: how many rows it had.
-fn take(m: &mut Memories<'_>, strip: &mut [u8], numbers: &mut [u8]) -> Answer {
-    answer_in(capi_strip::pw_strip_take(
-        &mut m.state,
-        &m.slots[..m.lent.slots],
-        &m.pool[..m.lent.pool],
-        &mut m.books[..m.lent.books],
-        strip,
-        numbers,
-    ))
-}
-
 impl<'m> Strip<'m> {
     // Before the first call.
     pub fn new(memories: Memories<'m>) -> Strip<'m> {
@@ -118,8 +106,7 @@ impl Player for Strip<'_> {
                 self.tell(rt, "read", answer)
             }
             Call::Take => {
-                let answer = take(
-                    &mut self.memories,
+                let answer = self.memories.take(
                     front(&mut self.strip, size),
                     front(&mut self.numbers, rows),
                 );
