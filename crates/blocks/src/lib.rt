@@ -80,7 +80,7 @@ impl BufferSource {
         let size = keep(self.current, min);
         NextSize {
             source: BufferSource { current: size },
-            size: ByteSum((size.0 as u64).max(min.0)),
+            size: ByteSum(counts::larger(size.0 as u64, min.0)),
         }
     }
 }

@@ -24,12 +24,12 @@ pub struct BufferNumber(pub u32);
 pub fn larger(a: u64, b: u64) -> u64
     ensures { result ≡ max a b }
 {
-    a.max(b)
+    b.max(a)
 }
 
 // The smaller of two numbers.
 pub fn smaller(a: u64, b: u64) -> u64
     ensures { result ≡ min a b }
 {
-    a.min(b)
+    b.min(a)
 }

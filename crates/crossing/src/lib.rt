@@ -76,7 +76,7 @@ pub fn put_answer(out: &mut [u8], answer: RowAnswer) -> u32
 pub fn copy_front(out: &mut [u8], part: &[u8])
     ensures { out.new ≡ lay 0 part.now out.old }
 {
-    let n = out.len().min(part.len());
+    let n = counts::smaller(out.len() as u64, part.len() as u64) as usize;
     out[..n].copy_from_slice(&part[..n]);
 }
 

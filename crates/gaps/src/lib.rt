@@ -36,8 +36,8 @@ fn past(e: Entry, at: u64, size: ByteSum) -> u64
     }
     let start = e.start as u64;
     let end = start + (e.capacity.0 as u64);
-    let from = start.max(at);
-    let to = end.min(at + size.0);
+    let from = counts::larger(start, at);
+    let to = counts::smaller(end, at + size.0);
     if from < to { end } else { at }
 }
 
