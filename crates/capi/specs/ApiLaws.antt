@@ -1,5 +1,5 @@
 -- The C layer's calls: a law for each exit.
-use Rattle.std.specs.Prelude.{ℕ, zero, suc, refl, Bool, List, length, eqb}
+use Rattle.std.specs.Prelude.{ℕ, zero, suc, refl, Bool, List, [], length, eqb}
 use Rattle.std.proofs.Math.Path.{◌≡◌, ap}
 use Rattle.std.proofs.Common.{sym, ◌∙◌, arith}
 use Rattle.std.proofs.Math.Bool.{true, false, cond}
@@ -29,7 +29,7 @@ use Rattle.codes.specs.Code.{state_bytes, code_of, limit_in, set_up_words, count
 use Rattle.codes.specs.TakeLaws.{code_state}
 use Rattle.codes.specs.LimitLaws.{limited-code}
 use Rattle.crossing.specs.Cross.{kept_as, KeepsState, pair, number_in, limit_pair, row_bytes}
-use Rattle.capi.specs.Api.{Memory, memory, said, told, Form, number, both, Given, given, pushing, finishing, dropping, registering, letting_go, world_in, coded, uncoded, Codes, CodesNone, called}
+use Rattle.capi.specs.Api.{Memory, memory, said, told, Form, number, both, in_form, Given, given, pushing, finishing, dropping, registering, letting_go, world_in, coded, uncoded, Codes, CodesNone, called}
 use Rattle.capi.specs.Api.{buffer_number, part_in, buffer_read, row_in, row_read, limit_set, limit_read, rows_buffered, completed_flag, empty_flag}
 use Rattle.std.specs.Prelude.{Option, Result}
 use Rattle.counts.specs.declared.BufferNumber.{BufferNumber}
@@ -108,6 +108,10 @@ module _ {m : Memory} {n : ℕ} (k : CodesNone m n) where
   row_none c i = rw (ne_eqb (decoded m.state).number 0 k.none) (ap (λ (x : ℕ). RowAnswer.Refused x) k.refusal_is)
 
 module _ (form : Form) (f : World → Given) (b slots pool books : List ℕ) {d : Coded} (e : d ≡ decoded b) where
+  pub call_refused : {n r : ℕ} → (d.number ≡ 0 → ⊥) → n ≡ uncoded (memory b slots pool books) → r ≡ in_form form n 0 → said r (memory b slots pool books) ≡ called form f (memory b slots pool books)
+  unfolding called
+  call_refused h q p = rw (← e, ne_eqb d.number 0 h, p, q)
+
   pub call_done : {g : Given} → d.number ≡ 0 → f (world d.state slots pool books) ≡ g → coded form b g ≡ called form f (memory b slots pool books)
   unfolding called
   call_done z p = rw (← e, eq-eqb d.number 0 z, p)
@@ -228,6 +232,10 @@ module _ (b slots pool books : List ℕ) {d : Coded} (e : d ≡ decoded b) where
   pub refusal-read : (i : ℕ) {r : ℕ} → d.number ≡ 0 → r ≡ buffer_number_call (world d.state slots pool books) i → r ≡ buffer_number (memory b slots pool books) i
   unfolding buffer_number
   refusal-read i z p = rw (← e, eq-eqb d.number 0 z) p
+
+  pub part_not : (i : ℕ) → (d.number ≡ 0 → ⊥) → part_in (memory b slots pool books) i ≡ []
+  unfolding part_in
+  part_not i h = rw (← e, ne_eqb d.number 0 h)
 
   pub part_is : (i : ℕ) → d.number ≡ 0 → part_in (memory b slots pool books) i ≡ buffer_call (world d.state slots pool books) i
   unfolding part_in

@@ -36,6 +36,12 @@ running_closable r e = record { booked = running_booked r; slots_are = e }
 -- ---- one column
 
 module _ {s : BatchCoalescer} {slots books : List ℕ} {c : ℕ} where
+  pub one_inside : Closable s slots books → c < s.columns → c < 16
+  one_inside x h = omega (arith, (booked_few x.booked).columns)
+
+  pub one_ready : {v : Bool} → Closable s slots books → c < s.columns → v ≡ is_views s c → v ≡ true → FillingViews s slots books c
+  one_ready x h e y = ready_at x.booked x.slots_are h (sym e ∙ y)
+
   pub one_views : {v : Bool} {t : BatchCoalescer} {slots' books' : List ℕ} → v ≡ is_views s c → v ≡ true → ClosesBlock s slots books c t slots' books' → ClosesOne s slots books c t slots' books'
   one_views {v} e y k = record { is = λ pool. go pool ∙ k.is pool }
     where
@@ -79,7 +85,11 @@ module _ {s : BatchCoalescer} {slots books : List ℕ} (x : Closable s slots boo
     pub closable_after : Closable t slots' books'
     closable_after = record { booked = run-booked a.goes.run; slots_are = a.goes.run.fit.slots_are }
 
-    closes_more : {u : BatchCoalescer} {slots'' books'' : List ℕ} → c < s.columns → ClosesOne t slots' books' c u slots'' books'' → ClosesAll s slots books (c + 1) u slots'' books''
+    -- what is known of a column that is not closed yet
+    pub closes_asks : c < s.columns → (Closable t slots' books') × (c < t.columns)
+    closes_asks h = (closable_after, along_in a.beside c h)
+
+    pub closes_more : {u : BatchCoalescer} {slots'' books'' : List ℕ} → c < s.columns → ClosesOne t slots' books' c u slots'' books'' → ClosesAll s slots books (c + 1) u slots'' books''
     closes_more {u} {slots''} {books''} h o =
         record {
           is = λ pool. each_more c close (world s slots pool books) ∙ ap (λ (v : World). close v c) (k.is pool) ∙ o.is pool;
@@ -96,8 +106,7 @@ module _ {s : BatchCoalescer} {slots books : List ℕ} (x : Closable s slots boo
 
     -- a column of views: what finish_current asks, and what it leaves; and one that is not
     pub closes_ready : {v : Bool} → c < s.columns → v ≡ is_view (get_or s.column c no_column).kind → v ≡ true → FillingViews t slots' books' c
-    closes_ready h p y =
-        ready_at closable_after.booked closable_after.slots_are (along_in a.beside c h) (sym (looked p) ∙ y)
+    closes_ready h p y = one_ready closable_after (along_in a.beside c h) (looked p) y
 
     pub closes_views : {v : Bool} {u : BatchCoalescer} {slots'' books'' : List ℕ} → c < s.columns → v ≡ is_view (get_or s.column c no_column).kind → v ≡ true → ClosesBlock t slots' books' c u slots'' books'' → ClosesAll s slots books (c + 1) u slots'' books''
     closes_views h p y k = closes_more h (one_views (looked p) y k)

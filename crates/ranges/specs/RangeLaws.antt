@@ -97,8 +97,13 @@ module _ (s : BatchCoalescer) (books : List ℕ) (list c : ℕ) {b : Option Buff
     pub block_fails : v ≡ false → v ≡ block_in_range s books list c b
     block_fails x = x ∙ both_fails _ x ∙ block_whole
 
-    pub block_is : {r : Bool} → v ≡ true → r ≡ every (not_open s k.0) c → r ≡ block_in_range s books list c b
-    block_is x t = t ∙ both_rest _ x ∙ block_whole
+    pub block_rest : {r : Bool} → v ≡ true → r ≡ every (not_open s k.0) c → r ≡ block_in_range s books list c b
+    block_rest x t = t ∙ both_rest _ x ∙ block_whole
+
+  -- whatever the tests behind the first say
+  pub block_is : {k : BufferNumber} {a r : Bool} → b ≡ Some k → k.0 < s.numbers → a ≡ not (is_free_at books k.0) → r ≡ every (not_open s k.0) c → (a && (ltb list s.lists && r)) ≡ block_in_range s books list c b
+  unfolding not_open
+  block_is {k} e h p t = rw (e, lt-ltb k.0 s.numbers h, p, t)
 
 -- column_in_range
 module _ (s : BatchCoalescer) (books : List ℕ) (c : ℕ) {k : Column} {v : Bool} (q : k ≡ column_of s c) (p : v ≡ is_view k.kind) where
@@ -156,8 +161,13 @@ module _ (s : BatchCoalescer) (slots books : List ℕ) (slot c : ℕ) {v : Bool}
     pub list_fails : (n ≡ 0 → ⊥) → u ≡ false → u ≡ list_in_range (world s slots [] books) slot c
     list_fails z x = x ∙ both_fails _ (sym (list_bound z) ∙ x) ∙ list_whole
 
-    pub list-last : {at : ℕ} {b : Bool} → (n ≡ 0 → ⊥) → u ≡ true → at ≡ list_place s slot c → b ≡ below slots at n s.numbers → b ≡ list_in_range (world s slots [] books) slot c
-    list-last z x i j = j ∙ ap (λ a. below slots a n s.numbers) i ∙ both_rest _ (sym (list_bound z) ∙ x) ∙ list_whole
+    pub list_rest : {at : ℕ} {b : Bool} → (n ≡ 0 → ⊥) → u ≡ true → at ≡ list_place s slot c → b ≡ below slots at n s.numbers → b ≡ list_in_range (world s slots [] books) slot c
+    list_rest z x i j = j ∙ ap (λ a. below slots a n s.numbers) i ∙ both_rest _ (sym (list_bound z) ∙ x) ∙ list_whole
+
+  -- whatever is listed, and where nothing is
+  pub list-last : {at : ℕ} {b : Bool} → v ≡ true → n ≤ s.lists → at ≡ list_place s slot c → b ≡ below slots at n s.numbers → b ≡ list_in_range (world s slots [] books) slot c
+  unfolding list_in_range list_length below
+  list-last x h i j = rw (← q, x, ← p, le-leb n s.lists h, ← i) j
 
 pub listed_room : (s : BatchCoalescer) (slot c n : ℕ) {u v : Bool} {at L : ℕ} → u ≡ (v && leb n s.lists) → u ≡ true → at ≡ list_place s slot c → v ≡ is_views s c → slot ≤ s.queue → c < s.columns → L ≡ slots_length s → at + 4 * n ≤ L
 listed_room s slot c n {u} {v} x y e p h k m =

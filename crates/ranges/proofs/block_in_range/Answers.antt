@@ -5,7 +5,7 @@ use Rattle.std.specs.Prelude.{◌≡◌, ◌&&◌, not, ltb}
 use Rattle.std.proofs.Common.{◌∙◌}
 use Rattle.search.specs.Cases.{both_fails, both_rest}
 use Rattle.books.specs.Entry.{is_free_at}
-use Rattle.ranges.specs.RangeLaws.{number_room, block_closed, block_fails, block_is}
+use Rattle.ranges.specs.RangeLaws.{number_room, block_closed, block_fails, block_rest}
 use Rattle.ranges.proofs.block_in_range.Goals as goal
 use Rattle.ranges.proofs.block_in_range.Goals.{then-k-s, else-k-s, then-in_use, else-in_use}
 
@@ -28,7 +28,7 @@ returns-then-list-s c =
       | then-in_use w ↦ w.value-is ∙ both_rest _ w.if-in_use.true
       | else-in_use w ↦ w.value-is ∙ w.if-in_use.false ∙ both_fails _ w.if-in_use.false
     ] in
-    block_is _ _ _ _ c.in-Some.is two three c.if-list-s.true c.none_before.ensures
+    block_rest _ _ _ _ c.in-Some.is two three c.if-list-s.true c.none_before.ensures
 
 pub returns-else-list-s : goal.returns-else-list-s
 returns-else-list-s c =

@@ -3,7 +3,7 @@ use borrow.Author.Rules.{rules}
 use Rattle.std.specs.Prelude.{◌≡◌, ◌&&◌, leb}
 use Rattle.std.proofs.Common.{◌∙◌}
 use Rattle.search.specs.Cases.{both_fails, both_rest}
-use Rattle.ranges.specs.RangeLaws.{list-empty, list_fails, list-last, listed_room}
+use Rattle.ranges.specs.RangeLaws.{list-empty, list_fails, list_rest, listed_room}
 use Rattle.ranges.proofs.list_in_range.Goals as goal
 use Rattle.ranges.proofs.list_in_range.Goals.{then-is_views, else-is_views}
 
@@ -27,7 +27,7 @@ returns-then-has_place c =
       | then-is_views w ↦ w.has_place-is ∙ both_rest _ w.if-is_views.true
       | else-is_views w ↦ w.has_place-is ∙ w.if-is_views.false ∙ both_fails _ w.if-is_views.false
     ] in
-    list-last _ _ _ _ _ c.list_length-count.ensures c.is_views.ensures two c.if-count-eq0.false c.if-has_place.true c.list_place.ensures.0 c.words_below.ensures
+    list_rest _ _ _ _ _ c.list_length-count.ensures c.is_views.ensures two c.if-count-eq0.false c.if-has_place.true c.list_place.ensures.0 c.words_below.ensures
 
 pub returns-else-has_place : goal.returns-else-has_place
 returns-else-has_place c =
