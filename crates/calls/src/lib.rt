@@ -42,12 +42,14 @@ impl<'a> Memories<'a> {
         }
     }
 
-    // A call is heard: what it lends is lent from now on, where there is room for it.
-    pub fn hear(&mut self, call: Call) -> Result<(), Wrong> {
+    // A call is heard: what it lends is lent from now on, where there is room for it, and no more of the pool than `most`.
+    pub fn hear(&mut self, call: Call, most: usize) -> Result<(), Wrong>
+        ensures { self.old.lent.pool ≤ most → self.new.lent.pool ≤ most }
+    {
         if let Some(lent) = call.lent() {
             let room = Lent {
                 slots: self.slots.len(),
-                pool: self.pool.len(),
+                pool: self.pool.len().min(most),
                 books: self.books.len(),
             };
             lent.within(room)?;
@@ -223,10 +225,11 @@ impl<'a> Memories<'a> {
         let slots = &slots[..self.lent.slots];
         let pool = &pool[..self.lent.pool];
         let books = &books[..self.lent.books];
-        let size = capi_reads::pw_read_buffer(&self.state, slots, pool, books, number, out);
-        done(capi_reads::pw_buffer_refusal(&self.state, slots, pool, books, number)).and(Ok(
-            (size % 4294967296) as u32,
-        ))
+        match capi_reads::pw_read_buffer(&self.state, slots, pool, books, number, out) {
+            // refused, or a buffer of no bytes
+            0 => done(capi_reads::pw_buffer_refusal(&self.state, slots, pool, books, number)),
+            size => Ok((size % 4294967296) as u32),
+        }
     }
 
     // The books that are lent.

@@ -1,4 +1,6 @@
 // What every call answers, a line a call, and what it reads.
+ghost use Rattle.std.specs.Prelude.{◌≤◌};
+
 use crate::cells::{self, Cells};
 use answers::word_at;
 use calls::Memories;
@@ -15,15 +17,18 @@ pub struct Lines<'m, 's> {
 
 // As many columns as set-up asked for.
 #[derive(Clone, Copy)]
-struct Columns(u32);
+struct Columns {
+    count: u32,
+    ghost few: { count ≤ 16 },
+}
 
 impl Cells for Columns {
     fn columns(&self) -> u32 {
-        self.0
+        self.count
     }
 
     fn cell<R: Print>(&self, rt: &R, column: u32, bytes: Option<&[u8]>) -> io::Result<()> {
-        telling::cell(rt, column, self.0.saturating_sub(1), bytes)
+        telling::cell(rt, column, self.count.saturating_sub(1), bytes)
     }
 }
 
@@ -38,7 +43,8 @@ impl<'m, 's> Lines<'m, 's> {
         match call {
             Call::Drop => {
                 // as many as stand in word 3 of the state, up to 16
-                let columns = Columns(word_at(&self.memories.state, 12).min(16));
+                let count = word_at(&self.memories.state, 12).min(16);
+                let columns = Columns { count };
                 cells::show(rt, &columns, &self.memories, self.scratch)
             }
             Call::ReadRow { column, row } => {
@@ -62,7 +68,7 @@ impl Player for Lines<'_, '_> {
     type Call = Call;
 
     fn hear(&mut self, sent: &Sent<'_, Call>) -> Result<(), Wrong> {
-        self.memories.hear(sent.call)
+        self.memories.hear(sent.call, self.scratch.len())
     }
 
     fn make<R: Print>(&mut self, rt: &R, sent: &Sent<'_, Call>) -> io::Result<()> {

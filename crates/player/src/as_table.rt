@@ -68,7 +68,7 @@ impl Player for Table<'_, '_> {
     }
 
     fn hear(&mut self, sent: &Sent<'_, Call>) -> Result<(), Wrong> {
-        self.memories.hear(sent.call)?;
+        self.memories.hear(sent.call, self.scratch.len())?;
         turns::of_match(sent)
     }
 

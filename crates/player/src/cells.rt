@@ -1,4 +1,6 @@
 // The rows of the batch that a drop takes, cell by cell. An error is one of standard output.
+ghost use Rattle.std.specs.Prelude.{◌≤◌};
+
 use answers::{Cell, part};
 use calls::Memories;
 use capture::{Memory, Place};
@@ -6,8 +8,9 @@ use std::io;
 
 // What prints the cells of a row, each behind the ones before it.
 pub trait Cells {
-    // How many columns are shown.
-    fn columns(&self) -> u32;
+    // How many columns are shown: no more than set-up allows.
+    fn columns(&self) -> u32
+        ensures { result ≤ 16 };
 
     // A cell's bytes, none for null.
     fn cell<R: Print>(&self, rt: &R, column: u32, bytes: Option<&[u8]>) -> io::Result<()>;

@@ -81,7 +81,7 @@ impl Player for Strip<'_> {
     }
 
     fn hear(&mut self, sent: &Sent<'_, Call>) -> Result<(), Wrong> {
-        self.memories.hear(sent.call)?;
+        self.memories.hear(sent.call, usize::MAX)?;
         turns::of_match(sent)
     }
 

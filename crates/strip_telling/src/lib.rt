@@ -71,7 +71,7 @@ impl Player for Strip<'_> {
 
     fn hear(&mut self, sent: &Sent<'_, Call>) -> Result<(), Wrong> {
         match sent.call {
-            Call::Coalescer(call) => self.memories.hear(call),
+            Call::Coalescer(call) => self.memories.hear(call, usize::MAX),
             Call::Lend { strip, numbers } => {
                 self.size = strip as usize;
                 self.rows = numbers as usize;
